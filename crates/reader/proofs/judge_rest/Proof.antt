@@ -1,0 +1,30 @@
+-- A law for each answer, over what the calls returned.
+use Rattle.reader.proofs.Table.{refused-7, refused-cells, refused-clean}
+use borrow.Author.Needs.{needs}
+use Rattle.reader.proofs.judge_rest.Statement.{statement}
+use Rattle.reader.proofs.judge_rest.Tie as tie
+
+returns : tie.Need-returns
+returns c = search (refused-7, needs)
+
+returns-2 : tie.Need-returns-2
+returns-2 c = search (refused-cells, needs)
+
+returns-3 : tie.Need-returns-3
+returns-3 c = search (refused-clean, needs)
+
+pub judge-rest-spec : {M : Type 1} → statement M
+judge-rest-spec =
+    tie.close
+    (tie.spec
+    (λ c κs. search needs)
+    (λ c κs. search needs)
+    returns
+    (λ c. search needs)
+    (λ c. search needs)
+    (λ c κs. search needs)
+    (λ c. search needs)
+    (λ c. search needs)
+    (λ c κs. search needs)
+    returns-2
+    returns-3)

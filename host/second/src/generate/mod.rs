@@ -1,0 +1,20 @@
+//! Seeded makers of files, states, touches and streams; the same seed always makes the same.
+
+mod cells;
+pub mod damage;
+pub mod draft;
+pub mod modules;
+mod random;
+mod scenes;
+pub mod states;
+pub mod streams;
+
+pub use random::Random;
+
+/// Bytes and the refusal they must get.
+#[derive(Clone, Debug, PartialEq, Eq)]
+pub struct Damaged {
+    pub bytes: Vec<u8>,
+    pub number: u64,
+    pub place: u64,
+}

@@ -1,0 +1,186 @@
+//! Rows on which several rules meet: the combinations that are easily got wrong.
+
+use super::cells::{self, with_effect, Palette};
+use super::Random;
+use crate::module::Cell;
+
+/// Fills a row with one of the scenes; channels that the scene leaves free stay as they are.
+pub fn fill(random: &mut Random, palette: &Palette, row: &mut [Cell]) {
+    match random.below(15) {
+        0 | 1 => nested_loops(random, row),
+        2 | 3 => jump_and_break(random, palette, row),
+        4 | 5 => many_delays(random, row),
+        6 => delayed_effects(random, palette, row),
+        7 => offsets(random, palette, row),
+        8 => restarts(random, row),
+        9 => slides_to_note(random, palette, row),
+        10 => arpeggios(random, palette, row),
+        11 => slides_to_limits(random, row),
+        12 => speeds(random, row),
+        13 => numbers_alone(random, palette, row),
+        _ => loop_and_break(random, palette, row),
+    }
+}
+
+fn put_effect(cell: &mut Cell, code: u32) {
+    cell.effect = code / 256;
+    cell.parameter = code % 256;
+}
+
+/// E6 on several channels: begins, counts and jumps in one row.
+pub fn nested_loops(random: &mut Random, row: &mut [Cell]) {
+    for cell in row {
+        if random.chance(75) {
+            put_effect(cell, 0xE60 + random.pick(&[0, 0, 1, 1, 2, 2, 3, 15]));
+        }
+    }
+}
+
+/// B and D in either order, some twice.
+fn jump_and_break(random: &mut Random, palette: &Palette, row: &mut [Cell]) {
+    for cell in row {
+        match random.below(4) {
+            0 => put_effect(cell, cells::jump(random, palette.song_length)),
+            1 | 2 => put_effect(cell, cells::break_to(random)),
+            _ => {}
+        }
+    }
+}
+
+/// E6 beside B or D.
+fn loop_and_break(random: &mut Random, palette: &Palette, row: &mut [Cell]) {
+    nested_loops(random, row);
+    let channel = random.below(4) as usize;
+    let code = if random.chance(50) {
+        cells::break_to(random)
+    } else {
+        cells::jump(random, palette.song_length)
+    };
+    put_effect(&mut row[channel], code);
+}
+
+/// EE on several channels, the last one 0 at times, with a change of speed.
+fn many_delays(random: &mut Random, row: &mut [Cell]) {
+    for cell in row.iter_mut() {
+        if random.chance(60) {
+            put_effect(cell, 0xEE0 + random.pick(&[0, 0, 1, 2, 3]));
+        }
+    }
+    if random.chance(60) {
+        let channel = random.below(4) as usize;
+        put_effect(&mut row[channel], cells::speed(random));
+    }
+}
+
+/// Effects that come again in each repetition under EE.
+fn delayed_effects(random: &mut Random, palette: &Palette, row: &mut [Cell]) {
+    for cell in row.iter_mut() {
+        let code = random.pick(&[0xE91, 0xE92, 0xE93, 0xEC0, 0xEC1, 0xEC2, 0xE11, 0xE22]);
+        let own = random.pick(&[0xA01, 0xA20, 0x102, 0x203, 0x304, 0x047, 0xEA1, 0xEB1]);
+        let code = if random.chance(50) { code } else { own };
+        *cell = with_effect(cells::sample(random, palette), cells::period(random), code);
+    }
+    let channel = random.below(4) as usize;
+    put_effect(&mut row[channel], 0xEE0 + random.between(1, 3));
+}
+
+/// 9 with and without a period, at, before and past the end.
+fn offsets(random: &mut Random, palette: &Palette, row: &mut [Cell]) {
+    for cell in row {
+        let sample = if random.chance(60) {
+            cells::sample(random, palette)
+        } else {
+            0
+        };
+        let period = if random.chance(50) {
+            cells::period(random)
+        } else {
+            0
+        };
+        let offset = random.pick(&[0, 1, 1, 2, 2, 3, 4, 255]);
+        *cell = with_effect(sample, period, 0x900 + offset);
+    }
+}
+
+/// E9 with any period of repetition, mostly without a note.
+fn restarts(random: &mut Random, row: &mut [Cell]) {
+    for cell in row {
+        let period = if random.chance(30) {
+            cells::period(random)
+        } else {
+            0
+        };
+        *cell = with_effect(0, period, 0xE90 + random.pick(&[0, 1, 2, 3, 4, 5, 15]));
+    }
+}
+
+/// 3 with and without a period, a parameter and a sample number.
+fn slides_to_note(random: &mut Random, palette: &Palette, row: &mut [Cell]) {
+    for cell in row {
+        let sample = if random.chance(40) {
+            cells::sample(random, palette)
+        } else {
+            0
+        };
+        let period = if random.chance(50) {
+            cells::period(random)
+        } else {
+            0
+        };
+        *cell = with_effect(
+            sample,
+            period,
+            0x300 + random.pick(&[0, 0, 1, 7, 10, 100, 255]),
+        );
+    }
+}
+
+fn arpeggios(random: &mut Random, palette: &Palette, row: &mut [Cell]) {
+    for cell in row {
+        let period = if random.chance(60) {
+            cells::period(random)
+        } else {
+            0
+        };
+        let code = cells::arpeggio(random);
+        *cell = with_effect(cells::sample(random, palette), period, code);
+    }
+}
+
+/// Large steps of period and volume.
+fn slides_to_limits(random: &mut Random, row: &mut [Cell]) {
+    let codes = [
+        0x1FF, 0x2FF, 0xE1F, 0xE2F, 0xAF0, 0xA0F, 0xAFF, 0xEAF, 0xEBF, 0xC40, 0xC41,
+    ];
+    for cell in row {
+        put_effect(cell, random.pick(&codes));
+        if random.chance(30) {
+            cell.period = random.pick(&[113, 114, 127, 128, 129, 840, 841, 842, 855, 856]);
+        }
+    }
+}
+
+/// F on several channels; of two speeds or two tempos the later counts.
+fn speeds(random: &mut Random, row: &mut [Cell]) {
+    for cell in row {
+        if random.chance(70) {
+            put_effect(
+                cell,
+                random.pick(&[0xF00, 0xF01, 0xF02, 0xF1F, 0xF20, 0xF7D, 0xFFF]),
+            );
+        }
+    }
+}
+
+/// Sample numbers without a note, and notes without a sample number.
+fn numbers_alone(random: &mut Random, palette: &Palette, row: &mut [Cell]) {
+    for cell in row {
+        if random.chance(60) {
+            cell.sample = cells::sample(random, palette);
+            cell.period = 0;
+        } else {
+            cell.sample = 0;
+            cell.period = cells::period(random);
+        }
+    }
+}

@@ -1,0 +1,238 @@
+//! Legal states of an accepted module over their whole range, illegal ones, and touches.
+
+use super::{cells, Random};
+use crate::module::Module;
+use crate::state::{Channel, State};
+use crate::voice::Voice;
+use crate::STATE_CELLS;
+
+const SONG_CELLS: usize = 12;
+const CHANNEL_CELLS: usize = 11;
+
+/// What a touch carries.
+#[derive(Clone, Copy, Debug, PartialEq, Eq)]
+pub struct Touch {
+    pub page: u32,
+    pub made: u32,
+    pub position: u32,
+}
+
+/// The cells of a legal state; `file` is accepted.
+pub fn legal_state(seed: u64, file: &[u8]) -> [u32; STATE_CELLS] {
+    let module = accepted(file);
+    let mut random = Random::new(seed);
+    let mut state = State::fresh();
+    if random.chance(90) {
+        fill_song(&mut random, &mut state, module.song_length);
+    }
+    for channel in 0..4 {
+        if random.chance(90) {
+            state.channels[channel] = legal_channel(&mut random);
+        }
+        if random.chance(90) {
+            state.voices[channel] = legal_voice(&mut random, &module);
+        }
+    }
+    let mut cells = [0; STATE_CELLS];
+    state.write(&mut cells);
+    cells
+}
+
+/// The cells of a state with one thing wrong; `file` is accepted.
+pub fn illegal_state(seed: u64, file: &[u8]) -> [u32; STATE_CELLS] {
+    let module = accepted(file);
+    let mut random = Random::new(seed);
+    let mut cells = legal_state(random.number(), file);
+    let channel = random.below(4) as usize;
+    let own = &mut cells[SONG_CELLS + CHANNEL_CELLS * channel..][..CHANNEL_CELLS];
+    match random.below(3) {
+        0 => break_channel(&mut random, own),
+        1 => break_voice(&mut random, &module, &mut own[5..]),
+        _ => break_song(&mut random, &mut cells, module.song_length),
+    }
+    cells
+}
+
+/// A touch, good or refused, for a state of an accepted module.
+pub fn touch(seed: u64, file: &[u8], state: &[u32; STATE_CELLS]) -> Touch {
+    let mut random = Random::new(seed);
+    let song_length = accepted(file).song_length;
+    let (clock, page) = (state[10], state[11]);
+    let near = [0, 1, 24, 25, 26, 27, u32::MAX, u32::MAX - 1, 1 << 31];
+    let age = if random.chance(60) {
+        random.between(0, 25)
+    } else {
+        random.pick(&near)
+    };
+    let other = [page.wrapping_add(1), page.wrapping_sub(1), 0, u32::MAX];
+    let past = [
+        song_length,
+        song_length + 1,
+        128,
+        255,
+        256,
+        song_length + 256,
+        u32::MAX,
+    ];
+    Touch {
+        page: if random.chance(80) {
+            page
+        } else {
+            random.pick(&other)
+        },
+        made: clock.wrapping_sub(age),
+        position: if random.chance(75) {
+            random.edge_or(&[0, song_length - 1], 0, song_length - 1)
+        } else {
+            random.pick(&past)
+        },
+    }
+}
+
+fn accepted(file: &[u8]) -> Module<'_> {
+    Module::read(file).expect("the file is accepted")
+}
+
+/// Any number, often at the edge of what four bytes hold.
+fn any_number(random: &mut Random) -> u32 {
+    if random.chance(50) {
+        random.pick(&[0, 1, 3, 25, 26, u32::MAX, u32::MAX - 1, 1 << 31])
+    } else {
+        random.number() as u32
+    }
+}
+
+fn legal_row(random: &mut Random) -> u32 {
+    random.edge_or(&[0, 62, 63], 0, 63)
+}
+
+fn legal_period(random: &mut Random) -> u32 {
+    if random.chance(15) {
+        0
+    } else {
+        cells::period(random)
+    }
+}
+
+fn fill_song(random: &mut Random, state: &mut State, song_length: u32) {
+    let last = song_length - 1;
+    state.position = random.edge_or(&[0, last], 0, last);
+    state.row = legal_row(random);
+    state.next_position = random.edge_or(&[0, last], 0, last);
+    state.next_row = legal_row(random);
+    state.loop_row = legal_row(random);
+    state.loop_count = random.edge_or(&[0, 1, 15], 0, 15);
+    state.speed = random.edge_or(&[1, 2, 3, 6, 31], 1, 31);
+    state.tempo = random.edge_or(&[32, 125, 255, 255], 32, 255);
+    state.delay = random.edge_or(&[0, 0, 1, 15], 0, 15);
+    let last_tick = state.speed * (1 + state.delay) - 1;
+    state.tick = random.edge_or(&[0, 0, last_tick], 0, last_tick);
+    state.clock = any_number(random);
+    state.page = any_number(random);
+}
+
+fn legal_channel(random: &mut Random) -> Channel {
+    Channel {
+        latched: random.edge_or(&[0, 1, 31], 0, 31),
+        volume: random.edge_or(&[0, 63, 64], 0, 64),
+        period: legal_period(random),
+        target: legal_period(random),
+        memory: random.edge_or(&[0, 1, 255], 0, 255),
+    }
+}
+
+/// A sample number with bytes in reach, if one of some tries finds it.
+fn sample_with_bytes(random: &mut Random, module: &Module) -> Option<(u32, u32)> {
+    let first = random.between(1, 31);
+    for number in (first..=31).chain(1..first) {
+        if let Some(sample) = module.sample(number) {
+            if sample.end > 0 {
+                return Some((number, sample.end));
+            }
+        }
+    }
+    None
+}
+
+fn legal_voice(random: &mut Random, module: &Module) -> Voice {
+    let mut voice = Voice::fresh();
+    voice.sample = random.edge_or(&[0, 1, 31], 0, 31);
+    voice.period = legal_period(random);
+    voice.volume = random.edge_or(&[0, 63, 64], 0, 64);
+    if random.chance(25) {
+        return voice;
+    }
+    if let Some((number, end)) = sample_with_bytes(random, module) {
+        voice.sample = number;
+        voice.index = random.edge_or(&[0, 1, end - 1], 0, end - 1);
+        voice.fraction = random.edge_or(&[0, 1, 65_535], 0, 65_535);
+        voice.stopped = false;
+    }
+    voice
+}
+
+/// `limit` or a number above it.
+fn past(random: &mut Random, limit: u32) -> u32 {
+    random.pick(&[
+        limit,
+        limit,
+        limit,
+        limit + 1,
+        limit + 256,
+        limit + 65_536,
+        u32::MAX,
+    ])
+}
+
+fn bad_period(random: &mut Random) -> u32 {
+    random.pick(&[1, 111, 112, 857, 858, 4_095, 65_535 + 428, u32::MAX])
+}
+
+fn break_song(random: &mut Random, cells: &mut [u32; STATE_CELLS], song_length: u32) {
+    match random.below(7) {
+        0 => cells[random.pick(&[0, 4])] = past(random, song_length),
+        1 => cells[random.pick(&[1, 5, 6])] = past(random, 64),
+        2 => cells[2] = past(random, cells[8] * (1 + cells[3])),
+        3 => cells[random.pick(&[3, 7])] = past(random, 16),
+        4 => cells[8] = past(random, 32),
+        5 => cells[9] = past(random, 256),
+        _ => {
+            let (cell, below) = random.pick(&[(8, 0), (9, 0), (9, 31)]);
+            cells[cell] = below;
+        }
+    }
+}
+
+fn break_channel(random: &mut Random, cells: &mut [u32]) {
+    match random.below(5) {
+        0 => cells[0] = past(random, 32),
+        1 => cells[1] = past(random, 65),
+        2 => cells[2] = bad_period(random),
+        3 => cells[3] = bad_period(random),
+        _ => cells[4] = past(random, 256),
+    }
+}
+
+fn break_voice(random: &mut Random, module: &Module, cells: &mut [u32]) {
+    let (number, end) = sample_with_bytes(random, module).unwrap_or((1, 0));
+    match random.below(9) {
+        0 => cells[0] = past(random, 32),
+        1 => cells[1] = bad_period(random),
+        2 => cells[2] = past(random, 65),
+        3 => cells[3..].copy_from_slice(&[past(random, 1), 0, 1]),
+        4 => cells[3..].copy_from_slice(&[0, past(random, 1), 1]),
+        5 => {
+            cells[0] = 0;
+            cells[3..].copy_from_slice(&[0, 0, 0]);
+        }
+        6 => {
+            cells[0] = number;
+            cells[3..].copy_from_slice(&[past(random, end), 0, 0]);
+        }
+        7 => {
+            cells[0] = number;
+            cells[3..].copy_from_slice(&[0, past(random, 65_536), 0]);
+        }
+        _ => cells[5] = past(random, 2),
+    }
+}

@@ -1,0 +1,56 @@
+//! A second player of paper 01, written from the paper alone, to compare the first one with.
+
+pub mod generate;
+pub mod module;
+mod play;
+mod state;
+mod stream;
+mod voice;
+mod work;
+
+use module::Module;
+
+pub use play::{change_page, fresh, play, touch, trace_tick, Trace};
+pub use stream::{decode, encode, play_stream, tick_list, translate, Command, Tick};
+pub use voice::{growth, tick_frames, Voice};
+
+/// The numbers of a state where it is handed over: position, row, tick in row, delay, next
+/// position, next row, loop row, loop count, speed, tempo, clock, page; then for each channel
+/// latched sample, volume, period, target, slide memory, and of its voice sounding sample,
+/// period, volume, index, fraction, stopped (0 or 1).
+pub const STATE_CELLS: usize = 56;
+
+/// What a call answers: the refusal's number and place, or number and place 0 and the count
+/// of ticks played or bytes written.
+#[derive(Clone, Copy, Debug, PartialEq, Eq)]
+pub struct Answer {
+    pub number: u64,
+    pub place: u64,
+    pub count: u64,
+}
+
+impl Answer {
+    pub fn refused(number: u64, place: usize) -> Answer {
+        Answer {
+            number,
+            place: place as u64,
+            count: 0,
+        }
+    }
+
+    pub fn accepted(count: usize) -> Answer {
+        Answer {
+            number: 0,
+            place: 0,
+            count: count as u64,
+        }
+    }
+}
+
+/// Judges a module file by the refusals 1 to 9.
+pub fn judge(file: &[u8]) -> Answer {
+    match Module::read(file) {
+        Ok(_) => Answer::accepted(0),
+        Err(refusal) => refusal,
+    }
+}

@@ -1,0 +1,229 @@
+//! Reads a module file: the refusals 1 to 9, and the parts an accepted file hands on.
+
+use crate::Answer;
+
+pub const HEADERS: usize = 20;
+pub const HEADER_BYTES: usize = 30;
+pub const SAMPLES: usize = 31;
+pub const SONG_LENGTH: usize = 950;
+pub const TABLE: usize = 952;
+pub const TABLE_ENTRIES: usize = 128;
+pub const TAG: usize = 1080;
+pub const PATTERNS: usize = 1084;
+pub const PATTERN_BYTES: usize = 1024;
+pub const ROW_BYTES: usize = 16;
+pub const CELL_BYTES: usize = 4;
+
+pub const LAST_SAMPLE: u32 = 31;
+pub const LOUDEST: u32 = 64;
+pub const LOWEST_PERIOD: u32 = 113;
+pub const HIGHEST_PERIOD: u32 = 856;
+
+/// One sample of an accepted module.
+#[derive(Clone, Copy)]
+pub struct Sample<'a> {
+    pub bytes: &'a [u8],
+    pub volume: u32,
+    pub looped: bool,
+    /// The loop's first byte; without meaning where the sample isn't looped.
+    pub loop_first: u32,
+    /// The byte index at which a voice loops or stops.
+    pub end: u32,
+}
+
+#[derive(Clone, Copy, Debug, PartialEq, Eq, Default)]
+pub struct Cell {
+    pub sample: u32,
+    pub period: u32,
+    pub effect: u32,
+    pub parameter: u32,
+}
+
+/// An accepted module file.
+#[derive(Clone, Copy)]
+pub struct Module<'a> {
+    file: &'a [u8],
+    samples: [Sample<'a>; SAMPLES],
+    pub song_length: u32,
+}
+
+impl<'a> Module<'a> {
+    /// The module in `file`, or the file's refusal.
+    pub fn read(file: &'a [u8]) -> Result<Module<'a>, Answer> {
+        check_start(file)?;
+        check_table(file)?;
+        check_volumes(file)?;
+        check_loops(file)?;
+        let patterns_end = PATTERNS + PATTERN_BYTES * pattern_count(file);
+        if file.len() < patterns_end + all_sample_bytes(file) {
+            return Err(Answer::refused(7, file.len()));
+        }
+        check_cells(&file[PATTERNS..patterns_end])?;
+        Ok(Module {
+            file,
+            samples: samples(file, patterns_end),
+            song_length: u32::from(file[SONG_LENGTH]),
+        })
+    }
+
+    /// The sample of this number, 1 to 31; none for 0.
+    pub fn sample(&self, number: u32) -> Option<&Sample<'a>> {
+        if number == 0 {
+            None
+        } else {
+            Some(&self.samples[number as usize - 1])
+        }
+    }
+
+    /// The cell of a channel (0 to 3) at a song position and row.
+    pub fn cell(&self, position: u32, row: u32, channel: usize) -> Cell {
+        let pattern = usize::from(self.file[TABLE + position as usize]);
+        let place =
+            PATTERNS + PATTERN_BYTES * pattern + ROW_BYTES * row as usize + CELL_BYTES * channel;
+        read_cell(&self.file[place..place + CELL_BYTES])
+    }
+}
+
+/// 0, or a period from 113 to 856.
+pub fn legal_period(period: u32) -> bool {
+    period == 0 || (LOWEST_PERIOD..=HIGHEST_PERIOD).contains(&period)
+}
+
+fn word(file: &[u8], place: usize) -> u32 {
+    u32::from(file[place]) * 256 + u32::from(file[place + 1])
+}
+
+fn header(number: usize) -> usize {
+    HEADERS + HEADER_BYTES * number
+}
+
+fn length_words(file: &[u8], number: usize) -> u32 {
+    word(file, header(number) + 22)
+}
+
+fn volume_place(number: usize) -> usize {
+    header(number) + 25
+}
+
+fn repeat_start_place(number: usize) -> usize {
+    header(number) + 26
+}
+
+fn repeat_length(file: &[u8], number: usize) -> u32 {
+    word(file, header(number) + 28)
+}
+
+fn check_start(file: &[u8]) -> Result<(), Answer> {
+    if file.len() < PATTERNS {
+        return Err(Answer::refused(1, file.len()));
+    }
+    if &file[TAG..TAG + 4] != b"M.K." {
+        return Err(Answer::refused(2, TAG));
+    }
+    if file[SONG_LENGTH] == 0 || file[SONG_LENGTH] > 128 {
+        return Err(Answer::refused(3, SONG_LENGTH));
+    }
+    Ok(())
+}
+
+fn check_table(file: &[u8]) -> Result<(), Answer> {
+    for place in TABLE..TABLE + TABLE_ENTRIES {
+        if file[place] > 63 {
+            return Err(Answer::refused(4, place));
+        }
+    }
+    Ok(())
+}
+
+fn check_volumes(file: &[u8]) -> Result<(), Answer> {
+    for number in 0..SAMPLES {
+        let place = volume_place(number);
+        if u32::from(file[place]) > LOUDEST {
+            return Err(Answer::refused(5, place));
+        }
+    }
+    Ok(())
+}
+
+fn check_loops(file: &[u8]) -> Result<(), Answer> {
+    for number in 0..SAMPLES {
+        let place = repeat_start_place(number);
+        let start = word(file, place);
+        let repeat = repeat_length(file, number);
+        if repeat > 1 && start + repeat > length_words(file, number) {
+            return Err(Answer::refused(6, place));
+        }
+    }
+    Ok(())
+}
+
+/// One more than the largest of all 128 entries, played or not.
+fn pattern_count(file: &[u8]) -> usize {
+    let mut largest = 0;
+    for place in TABLE..TABLE + TABLE_ENTRIES {
+        largest = largest.max(usize::from(file[place]));
+    }
+    largest + 1
+}
+
+fn all_sample_bytes(file: &[u8]) -> usize {
+    let mut words = 0;
+    for number in 0..SAMPLES {
+        words += length_words(file, number) as usize;
+    }
+    2 * words
+}
+
+fn check_cells(patterns: &[u8]) -> Result<(), Answer> {
+    for (number, bytes) in patterns.chunks_exact(CELL_BYTES).enumerate() {
+        let cell = read_cell(bytes);
+        let place = PATTERNS + CELL_BYTES * number;
+        if cell.sample > LAST_SAMPLE {
+            return Err(Answer::refused(8, place));
+        }
+        if !legal_period(cell.period) {
+            return Err(Answer::refused(9, place));
+        }
+    }
+    Ok(())
+}
+
+fn read_cell(bytes: &[u8]) -> Cell {
+    let b0 = u32::from(bytes[0]);
+    let b1 = u32::from(bytes[1]);
+    let b2 = u32::from(bytes[2]);
+    let b3 = u32::from(bytes[3]);
+    Cell {
+        sample: b0 / 16 * 16 + b2 / 16,
+        period: b0 % 16 * 256 + b1,
+        effect: b2 % 16,
+        parameter: b3,
+    }
+}
+
+fn samples(file: &[u8], patterns_end: usize) -> [Sample<'_>; SAMPLES] {
+    let silent = Sample {
+        bytes: &[],
+        volume: 0,
+        looped: false,
+        loop_first: 0,
+        end: 0,
+    };
+    let mut samples = [silent; SAMPLES];
+    let mut place = patterns_end;
+    for (number, sample) in samples.iter_mut().enumerate() {
+        let length = 2 * length_words(file, number);
+        let start = word(file, repeat_start_place(number));
+        let repeat = repeat_length(file, number);
+        let looped = repeat > 1;
+        *sample = Sample {
+            bytes: &file[place..place + length as usize],
+            volume: u32::from(file[volume_place(number)]),
+            looped,
+            loop_first: 2 * start,
+            end: if looped { 2 * (start + repeat) } else { length },
+        };
+        place += length as usize;
+    }
+    samples
+}

@@ -1,0 +1,124 @@
+//! Playing a module from a state: whole ticks that fit, touches, page changes and single ticks.
+
+use crate::module::Module;
+use crate::state::State;
+use crate::voice::{render, tick_frames, Voice, CHANNELS};
+use crate::work::{finish, work};
+use crate::{Answer, STATE_CELLS};
+
+/// The age in ticks up to which a touch is taken.
+const OLDEST_TOUCH: u32 = 25;
+
+/// The cells of a fresh state.
+pub fn fresh() -> [u32; STATE_CELLS] {
+    let mut cells = [0; STATE_CELLS];
+    State::fresh().write(&mut cells);
+    cells
+}
+
+/// Plays the largest number of whole ticks, up to `ticks`, whose frames fit into `out`.
+pub fn play(file: &[u8], cells: &mut [u32; STATE_CELLS], ticks: u32, out: &mut [i16]) -> Answer {
+    let (module, mut state) = match read(file, cells) {
+        Ok(read) => read,
+        Err(refusal) => return refusal,
+    };
+    let mut played = 0;
+    let mut filled = 0;
+    while played < ticks {
+        let mut next = state;
+        work(&module, &mut next);
+        let numbers = 2 * tick_frames(next.tempo);
+        if numbers > out.len() - filled {
+            break;
+        }
+        render(
+            &module,
+            &mut next.voices,
+            &mut out[filled..filled + numbers],
+        );
+        finish(&mut next);
+        state = next;
+        filled += numbers;
+        played += 1;
+    }
+    state.write(cells);
+    Answer::accepted(played as usize)
+}
+
+/// Takes a touch made on `page` at clock `made` that names a song position.
+pub fn touch(
+    file: &[u8],
+    cells: &mut [u32; STATE_CELLS],
+    page: u32,
+    made: u32,
+    position: u32,
+) -> Answer {
+    let (module, mut state) = match read(file, cells) {
+        Ok(read) => read,
+        Err(refusal) => return refusal,
+    };
+    if page != state.page {
+        return Answer::refused(16, 0);
+    }
+    if state.clock.wrapping_sub(made) > OLDEST_TOUCH {
+        return Answer::refused(17, 0);
+    }
+    if position >= module.song_length {
+        return Answer::refused(18, 0);
+    }
+    state.position = position;
+    state.next_position = position;
+    state.row = 0;
+    state.next_row = 0;
+    state.tick = 0;
+    state.delay = 0;
+    state.loop_row = 0;
+    state.loop_count = 0;
+    state.write(cells);
+    Answer::accepted(0)
+}
+
+pub fn change_page(file: &[u8], cells: &mut [u32; STATE_CELLS]) -> Answer {
+    let mut state = match read(file, cells) {
+        Ok((_, state)) => state,
+        Err(refusal) => return refusal,
+    };
+    state.page = state.page.wrapping_add(1);
+    state.write(cells);
+    Answer::accepted(0)
+}
+
+/// One played tick: its place, its voices as they enter the frames, and its frames.
+#[derive(Clone, Debug, PartialEq, Eq)]
+pub struct Trace {
+    pub position: u32,
+    pub row: u32,
+    pub tick: u32,
+    pub tempo: u32,
+    pub voices: [Voice; CHANNELS],
+    pub frames: Vec<i16>,
+}
+
+/// Plays one tick and shows it; the cells hold the state after it.
+pub fn trace_tick(file: &[u8], cells: &mut [u32; STATE_CELLS]) -> Result<Trace, Answer> {
+    let (module, mut state) = read(file, cells)?;
+    work(&module, &mut state);
+    let mut trace = Trace {
+        position: state.position,
+        row: state.row,
+        tick: state.tick,
+        tempo: state.tempo,
+        voices: state.voices,
+        frames: vec![0; 2 * tick_frames(state.tempo)],
+    };
+    render(&module, &mut state.voices, &mut trace.frames);
+    finish(&mut state);
+    state.write(cells);
+    Ok(trace)
+}
+
+fn read<'a>(file: &'a [u8], cells: &[u32; STATE_CELLS]) -> Result<(Module<'a>, State), Answer> {
+    let module = Module::read(file)?;
+    let state = State::read(cells, &module)?;
+    Ok((module, state))
+}

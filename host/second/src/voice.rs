@@ -1,0 +1,126 @@
+//! Voices: starting, stopping, moving by one frame, and the frames of one tick.
+
+use crate::module::Module;
+
+pub const CHANNELS: usize = 4;
+
+#[derive(Clone, Copy, Debug, PartialEq, Eq)]
+pub struct Voice {
+    pub sample: u32,
+    pub period: u32,
+    pub volume: u32,
+    pub index: u32,
+    pub fraction: u32,
+    pub stopped: bool,
+}
+
+impl Voice {
+    pub fn fresh() -> Voice {
+        Voice {
+            sample: 0,
+            period: 0,
+            volume: 0,
+            index: 0,
+            fraction: 0,
+            stopped: true,
+        }
+    }
+
+    /// Starts a sample, 0 for none, at an offset in bytes.
+    pub fn start(&mut self, module: &Module, sample: u32, offset: u32) {
+        self.sample = sample;
+        let Some(sample) = module.sample(sample) else {
+            self.stop();
+            return;
+        };
+        if offset < sample.end {
+            self.run_from(offset);
+        } else if sample.looped {
+            self.run_from(sample.loop_first);
+        } else {
+            self.stop();
+        }
+    }
+
+    fn run_from(&mut self, index: u32) {
+        self.index = index;
+        self.fraction = 0;
+        self.stopped = false;
+    }
+
+    fn stop(&mut self) {
+        self.index = 0;
+        self.fraction = 0;
+        self.stopped = true;
+    }
+
+    fn sounds(&self) -> bool {
+        !self.stopped && self.sample != 0 && self.period != 0
+    }
+
+    /// What the voice gives to this frame.
+    fn gives(&self, module: &Module) -> i32 {
+        if !self.sounds() {
+            return 0;
+        }
+        let Some(sample) = module.sample(self.sample) else {
+            return 0;
+        };
+        // Bytes 0 and 1 of each sample read as 0.
+        if self.index < 2 {
+            return 0;
+        }
+        let byte = sample.bytes[self.index as usize] as i8;
+        i32::from(byte) * self.volume as i32
+    }
+
+    /// Moves by one frame; `growth` is the growth of the fraction at the voice's period.
+    fn step(&mut self, module: &Module, growth: u32) {
+        if !self.sounds() {
+            return;
+        }
+        let Some(sample) = module.sample(self.sample) else {
+            return;
+        };
+        self.fraction += growth;
+        if self.fraction > 65_535 {
+            self.fraction -= 65_536;
+            self.index += 1;
+        }
+        if self.index == sample.end {
+            if sample.looped {
+                self.index = sample.loop_first;
+            } else {
+                self.stop();
+            }
+        }
+    }
+}
+
+/// What a frame adds to the fraction at this period; nothing at period 0.
+pub fn growth(period: u32) -> u32 {
+    if period == 0 {
+        return 0;
+    }
+    // The PAL clock is 3,546,894.6 Hz, so both it and the rate are taken ten times.
+    (35_468_946 * 65_536 / (480_000 * u64::from(period))) as u32
+}
+
+/// The frames of a tick at this tempo.
+pub fn tick_frames(tempo: u32) -> usize {
+    120_000 / tempo as usize
+}
+
+/// Fills `out`, two numbers a frame, and moves the voices.
+pub fn render(module: &Module, voices: &mut [Voice; CHANNELS], out: &mut [i16]) {
+    let growths = voices.map(|voice| growth(voice.period));
+    for frame in out.chunks_exact_mut(2) {
+        let mut given = [0; CHANNELS];
+        for channel in 0..CHANNELS {
+            given[channel] = voices[channel].gives(module);
+            voices[channel].step(module, growths[channel]);
+        }
+        frame[0] = (2 * (given[0] + given[3])) as i16;
+        frame[1] = (2 * (given[1] + given[2])) as i16;
+    }
+}

@@ -1,0 +1,259 @@
+//! The work of one tick: the row's notes and effects, the next place, and the later ticks' slides.
+
+use crate::module::{Cell, Module, HIGHEST_PERIOD, LOUDEST, LOWEST_PERIOD};
+use crate::state::State;
+use crate::voice::CHANNELS;
+
+/// The 36 periods of the semitones.
+const SEMITONES: [u32; 36] = [
+    856, 808, 762, 720, 678, 640, 604, 570, 538, 508, 480, 453, //
+    428, 404, 381, 360, 339, 320, 302, 285, 269, 254, 240, 226, //
+    214, 202, 190, 180, 170, 160, 151, 143, 135, 127, 120, 113,
+];
+
+/// For each channel whose voice started in this tick, the offset asked, in steps of 256 bytes.
+pub type Starts = [Option<u32>; CHANNELS];
+
+/// Where the row's effects ask to go.
+struct Flow {
+    position: Option<u32>,
+    row: Option<u32>,
+    jump: Option<u32>,
+}
+
+/// Does all work of the state's tick up to its frames.
+pub fn work(module: &Module, state: &mut State) -> Starts {
+    let mut starts = [None; CHANNELS];
+    if state.tick == 0 {
+        row_work(module, state, &mut starts);
+    }
+    let t = state.tick % state.speed;
+    for channel in 0..CHANNELS {
+        let cell = module.cell(state.position, state.row, channel);
+        if t > 0 {
+            tick_effect(module, state, channel, &cell, t, &mut starts);
+        }
+        state.voices[channel].volume = state.channels[channel].volume;
+        state.voices[channel].period = sounded_period(state.channels[channel].period, &cell, t);
+    }
+    starts
+}
+
+/// After the frames: moves the clock and the tick, and at the row's end takes the next place.
+pub fn finish(state: &mut State) {
+    state.clock = state.clock.wrapping_add(1);
+    state.tick += 1;
+    if state.tick == state.speed * (1 + state.delay) {
+        state.position = state.next_position;
+        state.row = state.next_row;
+        state.tick = 0;
+        state.delay = 0;
+    }
+}
+
+fn row_work(module: &Module, state: &mut State, starts: &mut Starts) {
+    let mut flow = Flow {
+        position: None,
+        row: None,
+        jump: None,
+    };
+    for channel in 0..CHANNELS {
+        let cell = module.cell(state.position, state.row, channel);
+        note(module, state, channel, &cell, starts);
+        row_effect(module, state, channel, &cell, starts);
+        flow_effect(module, state, &cell, &mut flow);
+    }
+    fix_next_place(module, state, &flow);
+}
+
+fn note(module: &Module, state: &mut State, channel: usize, cell: &Cell, starts: &mut Starts) {
+    let own = &mut state.channels[channel];
+    if let Some(sample) = module.sample(cell.sample) {
+        own.latched = cell.sample;
+        own.volume = sample.volume;
+    }
+    if cell.period == 0 {
+        return;
+    }
+    if cell.effect == 0x3 {
+        own.target = cell.period;
+        return;
+    }
+    own.period = cell.period;
+    let asked = if cell.effect == 0x9 {
+        cell.parameter
+    } else {
+        0
+    };
+    state.voices[channel].start(module, own.latched, 256 * asked);
+    starts[channel] = Some(asked);
+}
+
+/// Starts the sounding sample, if any, at an offset in steps of 256 bytes.
+fn restart(module: &Module, state: &mut State, channel: usize, asked: u32, starts: &mut Starts) {
+    let voice = &mut state.voices[channel];
+    if voice.sample != 0 {
+        voice.start(module, voice.sample, 256 * asked);
+        starts[channel] = Some(asked);
+    }
+}
+
+/// The effects at u = 0 that work on their channel.
+fn row_effect(
+    module: &Module,
+    state: &mut State,
+    channel: usize,
+    cell: &Cell,
+    starts: &mut Starts,
+) {
+    let own = &mut state.channels[channel];
+    let x = cell.parameter / 16;
+    let y = cell.parameter % 16;
+    match (cell.effect, x) {
+        (0x3, _) if cell.parameter != 0 => own.memory = cell.parameter,
+        (0x9, _) if cell.period == 0 => restart(module, state, channel, cell.parameter, starts),
+        (0xC, _) => own.volume = cell.parameter.min(LOUDEST),
+        (0xE, 0x1) => own.period = period_down(own.period, y),
+        (0xE, 0x2) => own.period = period_up(own.period, y),
+        (0xE, 0x9) if y > 0 => restart(module, state, channel, 0, starts),
+        (0xE, 0xA) => own.volume = volume_up(own.volume, y),
+        (0xE, 0xB) => own.volume = volume_down(own.volume, y),
+        (0xE, 0xC) if y == 0 => own.volume = 0,
+        _ => {}
+    }
+}
+
+/// The effects at u = 0 that work on the song.
+fn flow_effect(module: &Module, state: &mut State, cell: &Cell, flow: &mut Flow) {
+    let x = cell.parameter / 16;
+    let y = cell.parameter % 16;
+    match (cell.effect, x) {
+        (0xB, _) if cell.parameter < module.song_length => flow.position = Some(cell.parameter),
+        (0xB, _) => flow.position = Some(0),
+        (0xD, _) if cell.parameter <= 63 => flow.row = Some(cell.parameter),
+        (0xD, _) => flow.row = Some(0),
+        (0xE, 0x6) => pattern_loop(state, y, flow),
+        (0xE, 0xE) => state.delay = y,
+        (0xF, _) if cell.parameter == 0 => state.speed = 1,
+        (0xF, _) if cell.parameter <= 31 => state.speed = cell.parameter,
+        (0xF, _) => state.tempo = cell.parameter,
+        _ => {}
+    }
+}
+
+fn pattern_loop(state: &mut State, y: u32, flow: &mut Flow) {
+    if y == 0 {
+        state.loop_row = state.row;
+        return;
+    }
+    if state.loop_count == 0 {
+        state.loop_count = y;
+    } else {
+        state.loop_count -= 1;
+    }
+    if state.loop_count > 0 {
+        flow.jump = Some(state.loop_row);
+    }
+}
+
+fn fix_next_place(module: &Module, state: &mut State, flow: &Flow) {
+    let following = if state.position + 1 < module.song_length {
+        state.position + 1
+    } else {
+        0
+    };
+    if flow.position.is_some() || flow.row.is_some() {
+        state.next_position = flow.position.unwrap_or(following);
+        state.next_row = flow.row.unwrap_or(0);
+        state.loop_row = 0;
+        state.loop_count = 0;
+    } else if let Some(row) = flow.jump {
+        state.next_position = state.position;
+        state.next_row = row;
+    } else if state.row < 63 {
+        state.next_position = state.position;
+        state.next_row = state.row + 1;
+    } else {
+        state.next_position = following;
+        state.next_row = 0;
+        state.loop_row = 0;
+        state.loop_count = 0;
+    }
+}
+
+/// The effects at t above 0.
+fn tick_effect(
+    module: &Module,
+    state: &mut State,
+    channel: usize,
+    cell: &Cell,
+    t: u32,
+    starts: &mut Starts,
+) {
+    let own = &mut state.channels[channel];
+    let x = cell.parameter / 16;
+    let y = cell.parameter % 16;
+    match (cell.effect, x) {
+        (0x1, _) => own.period = period_down(own.period, cell.parameter),
+        (0x2, _) => own.period = period_up(own.period, cell.parameter),
+        (0x3, _) => own.period = period_towards(own.period, own.target, own.memory),
+        (0xA, 0) => own.volume = volume_down(own.volume, y),
+        (0xA, _) => own.volume = volume_up(own.volume, x),
+        (0xE, 0x9) if y > 0 && t.is_multiple_of(y) => restart(module, state, channel, 0, starts),
+        (0xE, 0xC) if t == y => own.volume = 0,
+        _ => {}
+    }
+}
+
+fn period_down(period: u32, by: u32) -> u32 {
+    if period == 0 {
+        return 0;
+    }
+    period.saturating_sub(by).max(LOWEST_PERIOD)
+}
+
+fn period_up(period: u32, by: u32) -> u32 {
+    if period == 0 {
+        return 0;
+    }
+    (period + by).min(HIGHEST_PERIOD)
+}
+
+fn period_towards(period: u32, target: u32, by: u32) -> u32 {
+    if period == 0 || target == 0 {
+        return period;
+    }
+    if period < target {
+        (period + by).min(target)
+    } else {
+        period.saturating_sub(by).max(target)
+    }
+}
+
+fn volume_up(volume: u32, by: u32) -> u32 {
+    (volume + by).min(LOUDEST)
+}
+
+fn volume_down(volume: u32, by: u32) -> u32 {
+    volume.saturating_sub(by)
+}
+
+/// The period that the voice takes: the channel's, or that of the arpeggio's semitone.
+fn sounded_period(period: u32, cell: &Cell, t: u32) -> u32 {
+    if period == 0 || cell.effect != 0 {
+        return period;
+    }
+    let semitones = match t % 3 {
+        1 => cell.parameter / 16,
+        2 => cell.parameter % 16,
+        _ => 0,
+    };
+    if semitones == 0 {
+        return period;
+    }
+    let mut entry = 0;
+    while SEMITONES[entry] > period {
+        entry += 1;
+    }
+    SEMITONES[(entry + semitones as usize).min(35)]
+}

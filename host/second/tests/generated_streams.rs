@@ -1,0 +1,137 @@
+//! Generated streams: legal ones play, aimed ones get their refusal, damaged ones change nothing.
+
+use second::generate::modules::{module, Size};
+use second::generate::streams::{bad_stream, damaged_stream, legal_stream};
+use second::{decode, encode, play_stream, tick_frames, tick_list, translate, Answer};
+
+const UNTOUCHED: i16 = 12_345;
+
+fn file(seed: u64) -> Vec<u8> {
+    module(
+        seed % 100,
+        if seed.is_multiple_of(4) {
+            Size::Medium
+        } else {
+            Size::Small
+        },
+    )
+}
+
+#[test]
+fn legal_streams_play_all_that_fits() {
+    for seed in 0..1_500 {
+        let file = file(seed);
+        let stream = legal_stream(seed, &file);
+        let ticks = decode(&stream).expect("legal");
+        let mut out = vec![UNTOUCHED; seed as usize * 37 % 40_000];
+        let answer = play_stream(&stream, &file, &mut out);
+        let mut filled = 0;
+        let mut count = 0;
+        for tick in &ticks {
+            if filled + 2 * tick_frames(tick.tempo) > out.len() {
+                break;
+            }
+            filled += 2 * tick_frames(tick.tempo);
+            count += 1;
+        }
+        assert_eq!(
+            answer,
+            Answer {
+                number: 0,
+                place: 0,
+                count
+            },
+            "seed {seed}"
+        );
+        assert!(
+            out[filled..].iter().all(|&number| number == UNTOUCHED),
+            "seed {seed}"
+        );
+    }
+}
+
+#[test]
+fn a_stream_rewritten_sounds_the_same() {
+    for seed in 0..500 {
+        let file = file(seed);
+        let stream = legal_stream(seed, &file);
+        let ticks = decode(&stream).expect("legal");
+        let shortest = encode(&ticks);
+        assert!(shortest.len() <= stream.len(), "seed {seed}");
+        assert_eq!(decode(&shortest).as_ref(), Ok(&ticks), "seed {seed}");
+        let mut one = vec![0; 20_000];
+        let mut other = one.clone();
+        let answer = play_stream(&stream, &file, &mut one);
+        assert_eq!(
+            play_stream(&shortest, &file, &mut other),
+            answer,
+            "seed {seed}"
+        );
+        assert!(one == other, "seed {seed}");
+    }
+}
+
+#[test]
+fn translations_decode_to_their_ticks() {
+    for seed in 0..500 {
+        let file = file(seed);
+        let ticks = (seed % 97) as u32;
+        let mut room = vec![0; 9 + 26 * ticks as usize];
+        let bytes = translate(&file, ticks, &mut room).count as usize;
+        assert_eq!(
+            decode(&room[..bytes]),
+            tick_list(&file, ticks),
+            "seed {seed}"
+        );
+    }
+}
+
+#[test]
+fn bad_streams_get_their_refusal() {
+    let mut seen = [0; 24];
+    for seed in 0..12_000 {
+        let file = module(seed % 50, Size::Small);
+        let bad = bad_stream(seed, &file);
+        let expected = Answer {
+            number: bad.number,
+            place: bad.place,
+            count: 0,
+        };
+        let mut out = [UNTOUCHED; 1_000];
+        assert_eq!(
+            play_stream(&bad.bytes, &file, &mut out),
+            expected,
+            "seed {seed}"
+        );
+        assert_eq!(out, [UNTOUCHED; 1_000], "seed {seed}");
+        seen[bad.number as usize] += 1;
+    }
+    assert!(seen[21..].iter().all(|&times| times > 500), "{seen:?}");
+}
+
+#[test]
+fn damaged_streams_play_or_change_nothing() {
+    let mut seen = [0; 24];
+    for seed in 0..6_000 {
+        let file = module(seed % 50, Size::Small);
+        let mut room = [0; 400];
+        let bytes = translate(&file, 12, &mut room).count as usize;
+        let good = if seed % 2 == 0 {
+            legal_stream(seed, &file)
+        } else {
+            room[..bytes].to_vec()
+        };
+        let damaged = damaged_stream(seed, &good);
+        let mut out = [UNTOUCHED; 4_000];
+        let answer = play_stream(&damaged, &file, &mut out);
+        seen[answer.number as usize] += 1;
+        if answer.number != 0 {
+            assert_eq!(answer.count, 0, "seed {seed}");
+            assert!(out.iter().all(|&number| number == UNTOUCHED), "seed {seed}");
+        }
+    }
+    assert!(
+        [0, 21, 22, 23].iter().all(|&number| seen[number] > 50),
+        "{seen:?}"
+    );
+}

@@ -1,0 +1,10 @@
+//! The paper's rules one by one, each shown on a small module built for it.
+
+mod calls;
+mod cases;
+mod common;
+mod effects;
+mod flow;
+mod notes;
+mod streams;
+mod voices;

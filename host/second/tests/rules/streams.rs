@@ -1,0 +1,152 @@
+//! Translation, the stream's records and their refusals.
+
+use crate::common::*;
+use second::{decode, play_stream, tick_list, translate};
+
+#[test]
+fn translation_is_judged_11_before_12() {
+    let file = song().bytes();
+    assert_eq!(translate(&file, 65_536, &mut []), refused(11, 0));
+    assert_eq!(
+        translate(&file, 65_535, &mut []),
+        refused(12, 9 + 2 * 65_535)
+    );
+    let mut room = [5; 8];
+    assert_eq!(translate(&file, 0, &mut room), refused(12, 9));
+    assert_eq!(room, [5; 8]);
+    let mut room = [5; 10];
+    assert_eq!(translate(&file, 0, &mut room), played(9));
+    assert_eq!(room, [0, 0, 0, 5, 1, 0, 0, 0, 0, 5]);
+}
+
+/// A stream of these records.
+fn stream(count: u32, records: &[u8]) -> Vec<u8> {
+    let mut stream = (5 + records.len() as u32).to_be_bytes().to_vec();
+    stream.push(1);
+    stream.extend_from_slice(&count.to_be_bytes());
+    stream.extend_from_slice(records);
+    stream
+}
+
+/// The answer to a stream of these records, with room for two ticks at tempo 125.
+fn answer(count: u32, records: &[u8]) -> second::Answer {
+    play_stream(&stream(count, records), &song().bytes(), &mut [0; 3_840])
+}
+
+#[test]
+fn lengths_and_version() {
+    let file = song().bytes();
+    let good = stream(0, &[]);
+    assert_eq!(play_stream(&good, &file, &mut []), played(0));
+    assert_eq!(play_stream(&good[..8], &file, &mut []), refused(21, 8));
+    assert_eq!(play_stream(&[], &file, &mut []), refused(21, 0));
+    assert_eq!(
+        play_stream(&[0, 0, 0, 4, 1, 0, 0, 0], &file, &mut []),
+        refused(21, 8)
+    );
+    let mut wrong = good.clone();
+    wrong[3] = 6;
+    wrong[4] = 0;
+    assert_eq!(play_stream(&wrong, &file, &mut []), refused(21, 9));
+    let mut wrong = stream(7, &[255]);
+    wrong[4] = 0;
+    assert_eq!(play_stream(&wrong, &file, &mut []), refused(22, 4));
+}
+
+#[test]
+fn legal_numbers_of_a_record() {
+    for good in [
+        [1, 32, 31, 64, 3, 88, 1, 255],
+        [1, 255, 0, 0, 0, 0, 1, 255],
+        [8, 125, 0, 0, 0, 113, 0, 0],
+        [4, 125, 0, 64, 0, 0, 0, 0],
+    ] {
+        assert_eq!(answer(1, &good).number, 0, "{good:?}");
+    }
+    for bad in [
+        [16, 125, 1, 64, 1, 172, 1, 0],
+        [1, 31, 1, 64, 1, 172, 1, 0],
+        [1, 125, 32, 64, 1, 172, 1, 0],
+        [1, 125, 1, 65, 1, 172, 1, 0],
+        [1, 125, 1, 64, 0, 112, 1, 0],
+        [1, 125, 1, 64, 3, 89, 1, 0],
+        [1, 125, 1, 64, 1, 172, 2, 0],
+        [1, 125, 1, 64, 1, 172, 0, 0],
+        [1, 125, 0, 64, 1, 172, 0, 1],
+    ] {
+        assert_eq!(answer(1, &bad), refused(23, 9), "{bad:?}");
+    }
+}
+
+#[test]
+fn a_sample_is_held_against_the_register_before() {
+    let first = [1, 125, 5, 64, 1, 172, 1, 0];
+    let same = [1, 125, 5, 64, 1, 172, 0, 0];
+    let other = [1, 125, 0, 64, 1, 172, 0, 0];
+    let elsewhere = [2, 125, 5, 64, 1, 172, 0, 0];
+    assert_eq!(answer(2, &[first, same].concat()), played(2));
+    assert_eq!(answer(2, &[first, other].concat()), refused(23, 17));
+    assert_eq!(answer(2, &[first, elsewhere].concat()), refused(23, 17));
+}
+
+#[test]
+fn records_run_out_and_bytes_are_left() {
+    let record = [1, 125, 1, 64, 1, 172, 1, 0];
+    for kept in 0..8 {
+        assert_eq!(answer(1, &record[..kept]), refused(23, 9), "kept {kept}");
+    }
+    assert_eq!(answer(2, &record), refused(23, 17));
+    assert_eq!(answer(u32::MAX, &record), refused(23, 17));
+    assert_eq!(answer(0, &record), refused(23, 9));
+    assert_eq!(answer(1, &[0, 125, 0]), refused(23, 11));
+}
+
+#[test]
+fn records_past_the_room_are_judged() {
+    let file = song().bytes();
+    let mut out = [3; 2_000];
+    let bad = stream(3, &[0, 125, 0, 125, 0, 31]);
+    assert_eq!(play_stream(&bad, &file, &mut out), refused(23, 13));
+    assert_eq!(out, [3; 2_000]);
+    let good = stream(3, &[0, 125, 0, 125, 0, 32]);
+    assert_eq!(play_stream(&good, &file, &mut out), played(1));
+    assert_eq!(out[..1_920], [0; 1_920]);
+    assert_eq!(out[1_920..], [3; 80]);
+}
+
+#[test]
+fn more_than_65535_ticks_may_be_played() {
+    let records = [0, 255].repeat(65_536);
+    assert_eq!(answer(65_536, &records), played(4));
+}
+
+#[test]
+fn a_set_bit_without_change_plays_on() {
+    let file = song().bytes();
+    let first = [1, 125, 2, 64, 1, 172, 1, 1];
+    let again = [1, 125, 2, 64, 1, 172, 0, 0];
+    let mut with = [0; 3_840];
+    let mut without = [0; 3_840];
+    play_stream(&stream(2, &[first, again].concat()), &file, &mut with);
+    play_stream(
+        &stream(2, &[&first[..], &[0, 125]].concat()),
+        &file,
+        &mut without,
+    );
+    assert_eq!(with[3_000], 6_400);
+    assert_eq!(with, without);
+}
+
+#[test]
+fn decoding_gives_the_translated_ticks() {
+    let draft = row(&[
+        (2, 428, 0x047),
+        (1, 300, 0x901),
+        (0, 200, 0xA01),
+        (0, 0, 0xF30),
+    ]);
+    let file = draft.bytes();
+    let mut room = [0; 500];
+    let count = translate(&file, 9, &mut room).count as usize;
+    assert_eq!(decode(&room[..count]), tick_list(&file, 9));
+}
