@@ -9,10 +9,10 @@ use native.Mathlib.Numerals.{add-one}
 use lib.ListN.{length, getD, set, List·getD-eq-default}
 use borrow.Author.Tests.{lt-ltb, le-ltb}
 use Rattle.laws.specs.Search.{total}
-use Rattle.laws.specs.Each.{each, Filled, fill-again, fill-end}
+use Rattle.laws.specs.Each.{Filled, fill-again, fill-end}
 use Rattle.reader.specs.File.{byteAt, samples, lengthOf, startOf, repeatOf, patternsAt, patternBytes, patternsOf, sampleAt}
 use Rattle.reader.specs.Judge.{judged}
-use Rattle.reader.specs.Samples.{none, extentOf, Placed}
+use Rattle.reader.specs.Samples.{none, extentOf, extentsOf, Placed}
 use Rattle.reader.specs.Accept.{accepted-has}
 use Rattle.reader.specs.declared.Extent.{Extent}
 
@@ -71,7 +71,7 @@ listed-again m table from k x w l p =
       small = omega (arith, w .at, w .small, p .short);
     }
 
-pub listed-end : (m : List ℕ) (table : List Extent) (from k : ℕ) → Listed m table from k → samples ≤ k → table ≡ each (extentOf m) (samples + 1)
+pub listed-end : (m : List ℕ) (table : List Extent) (from k : ℕ) → Listed m table from k → samples ≤ k → table ≡ extentsOf m
 listed-end m table from k w h = fill-end (extentOf m) none (samples + 1) table (k + 1) (w .filled) (omega arith)
 
 pub ruleset listing = (refl, listed-begin, listed-again, listed-end)

@@ -6,7 +6,8 @@ use mathlib.Core.Bool.{Bool, false, cond}
 use mathlib.Core.List.{List}
 use lib.Dec.{ltb}
 use lib.ListN.{take, drop}
-use Rattle.reader.specs.File.{lengthOf, startOf, repeatOf, sampleAt}
+use Rattle.laws.specs.Each.{each}
+use Rattle.reader.specs.File.{samples, lengthOf, startOf, repeatOf, sampleAt}
 use Rattle.reader.specs.declared.Extent.{Extent}
 
 -- looped if the repeat length is above 1
@@ -41,6 +42,10 @@ pub record Placed (m : List ℕ) (k : ℕ) (x : Extent) : Type 0 where
   pub is : x ≡ extentOf m (suc k)
   pub short : x .to ≤ x .from + 131070
 
+-- all of them, by sample number
+abbrev pub extentsOf : List ℕ → List Extent
+extentsOf m = each (extentOf m) (samples + 1)
+
 -- ---- what a voice is given: the bytes of one sample, as a part of the file, its end and its loop
 pub record Sample : Type 0 where
   pub bytes : List ℕ
@@ -51,6 +56,3 @@ pub record Sample : Type 0 where
 abbrev pub sampleIn : List ℕ → Extent → Sample
 sampleIn m x =
     record { bytes = take (x .to - x .from) (drop (x .from) m); end = x .end; looped = x .looped; first = x .first }
-
-unfoldable pub sampleOf : List ℕ → ℕ → Sample
-sampleOf m k = sampleIn m (extentOf m k)

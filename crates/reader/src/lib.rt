@@ -41,6 +41,13 @@ pub struct Verdict {
     pub place: usize,
 }
 
+// What a call answers: a refusal's number and place, with count 0; or 0, 0 and what the call counts.
+pub struct Answer {
+    pub number: u32,
+    pub place: usize,
+    pub count: usize,
+}
+
 // A cell of a pattern. The effects E0 to EF have the numbers 224 to 239.
 pub struct Cell {
     pub sample: u32,

@@ -3,10 +3,9 @@ ghost use mathlib.Core.Path.{_≡_};
 ghost use Prim.Native.Nat.{_+_, _*_, _≤_, _<_};
 ghost use lib.ListN.{length};
 ghost use Rattle.laws.specs.Search.{total};
-ghost use Rattle.laws.specs.Each.{each};
 ghost use Rattle.reader.specs.File.{samples, lengthOf, patternsAt, patternBytes, sampleAt};
 ghost use Rattle.reader.specs.Judge.{judged};
-ghost use Rattle.reader.specs.Samples.{extentOf, Placed};
+ghost use Rattle.reader.specs.Samples.{extentsOf, Placed};
 use crate::Extent;
 
 // The words of the first k samples.
@@ -62,7 +61,7 @@ fn extent(file: &[u8], from: usize, k: usize) -> Extent
 // The extents by sample number; number 0 is no sample.
 pub fn extents(file: &[u8]) -> [Extent; 32]
     requires { ⌜ judged (now file) .number ≡ 0 ⌝ }
-    ensures { λ r. ⌜ r ≡ each (extentOf (now (file .entry))) (samples + 1) ⌝ }
+    ensures { λ r. ⌜ r ≡ extentsOf (now (file .entry)) ⌝ }
 {
     let none = Extent {
         from: 0,
