@@ -56,3 +56,6 @@ pub record Sample : Type 0 where
 abbrev pub sampleIn : List ℕ → Extent → Sample
 sampleIn m x =
     record { bytes = take (x .to - x .from) (drop (x .from) m); end = x .end; looped = x .looped; first = x .first }
+
+unfoldable pub sampleOf : List ℕ → ℕ → Sample
+sampleOf m k = sampleIn m (extentOf m k)
