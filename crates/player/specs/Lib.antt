@@ -1,0 +1,4 @@
+pub mod State
+pub mod Play
+pub mod Touch
+pub mod Kept

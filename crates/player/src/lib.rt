@@ -1,0 +1,106 @@
+// The player: states, play, touches and page changes. Every call judges the module again, and answers any state.
+ghost use mathlib.Core.Path.{_≡_};
+ghost use Rattle.reader.specs.Answers.{refused};
+ghost use Rattle.player.specs.State.{freshState};
+ghost use Rattle.player.specs.Play.{reply, outcome, playOf};
+ghost use Rattle.player.specs.Touch.{changePage, ageOf, touchOf};
+use reader::Answer;
+use sequencer::Song;
+use voice::Voice;
+
+pub mod legality;
+pub mod moves;
+pub mod playing;
+
+// A state: the song and its voices. Any numbers may stand in it.
+pub struct State {
+    pub song: Song,
+    pub voices: [Voice; 4],
+}
+
+// What a call returns: its answer, and the state after it.
+pub struct Reply {
+    pub answer: Answer,
+    pub state: State,
+}
+
+// The oldest age at which a touch still counts, in ticks.
+const OLDEST: u32 = 25;
+
+fn refuse(number: u32, place: usize, state: State) -> Reply
+    ensures { λ r. ⌜ r ≡ reply (refused number place) state ⌝ }
+{
+    Reply {
+        answer: Answer {
+            number: number,
+            place: place,
+            count: 0,
+        },
+        state: state,
+    }
+}
+
+// The fresh state.
+pub fn fresh() -> State
+    ensures { λ r. ⌜ r ≡ freshState ⌝ }
+{
+    let silent = Voice::fresh();
+    let voices = [silent; 4];
+    State {
+        song: sequencer::fresh(),
+        voices: voices,
+    }
+}
+
+// Plays the largest number of whole ticks, up to `ticks`, whose frames fit into out; the rest of out stays.
+pub fn play(file: &[u8], state: State, ticks: u32, out: &mut [i16]) -> Reply
+    ensures { λ r. ⌜ outcome r (now (out .exit)) ≡ playOf (now (file .entry)) state ticks (now (out .entry)) ⌝ }
+{
+    let verdict = legality::judge_state(file, state);
+    let number = verdict.number;
+    if number != 0 {
+        return refuse(number, verdict.place, state);
+    }
+    let song = state.song;
+    let voices = state.voices;
+    playing::play_ticks(file, song, voices, ticks, out)
+}
+
+// A page change: touches made on the page before are refused from now on.
+pub fn change_page(file: &[u8], state: State) -> Reply
+    ensures { λ r. ⌜ r ≡ changePage (now (file .entry)) state ⌝ }
+{
+    let verdict = legality::judge_state(file, state);
+    let number = verdict.number;
+    if number != 0 {
+        return refuse(number, verdict.place, state);
+    }
+    moves::turn_page(state)
+}
+
+fn age(clock: u32, made: u32) -> u32
+    ensures { λ r. ⌜ r ≡ ageOf clock made ⌝ }
+{
+    std::num::wrapping_sub_u32(clock, made)
+}
+
+// A touch: made on a page, at a clock, for a position of the song.
+pub fn touch(file: &[u8], state: State, page: u32, made: u32, position: u32) -> Reply
+    ensures { λ r. ⌜ r ≡ touchOf (now (file .entry)) state page made position ⌝ }
+{
+    let verdict = legality::judge_state(file, state);
+    let number = verdict.number;
+    if number != 0 {
+        return refuse(number, verdict.place, state);
+    }
+    if page != state.song.page {
+        return refuse(16, 0, state);
+    }
+    if age(state.song.clock, made) > OLDEST {
+        return refuse(17, 0, state);
+    }
+    if position >= reader::song::song_length(file) {
+        return refuse(18, 0, state);
+    }
+    moves::go_to(state, position)
+}
