@@ -1,6 +1,33 @@
-// The C library: each public call on plain numbers and slices. An answer is number, place and count; number 0 is accepted.
+// The C library: each public call on plain numbers and slices. An answer is number, place and count; number 0 is accepted. A state is 56
+// cells, and any numbers may stand in them.
 ghost use mathlib.Core.Path.{_≡_};
-ghost use Rattle.capi.specs.Answers.{judgeAnswer};
+ghost use Rattle.cells.specs.Cells.{cellsOf, stateOf};
+ghost use Rattle.player.specs.State.{freshState};
+ghost use Rattle.player.specs.Play.{playOf};
+ghost use Rattle.player.specs.Touch.{changePage, touchOf};
+ghost use Rattle.translator.specs.Translate.{translateOf};
+ghost use Rattle.board.specs.Board.{playStream};
+ghost use Rattle.capi.specs.Answers.{judgeAnswer, answerCells, cellsAfter};
+use player::Reply;
+use reader::Answer;
+
+// An answer's three cells.
+fn answer_cells(a: Answer) -> [u64; 3]
+    ensures { λ r. ⌜ r ≡ answerCells a ⌝ }
+{
+    [a.number as u64, a.place as u64, a.count as u64]
+}
+
+// The state's cells after a call: those of its state, and on a refusal as they were.
+fn cells_after(cells: [u32; 56], reply: Reply) -> [u32; 56]
+    ensures { λ r. ⌜ r ≡ cellsAfter reply cells ⌝ }
+{
+    if reply.answer.number == 0 {
+        let state = reply.state;
+        return cells::cells_of(state);
+    }
+    cells
+}
 
 // Judges a file.
 #[no_mangle]
@@ -9,4 +36,96 @@ pub extern "C" fn lampthistle_judge(file: &[u8], answer: &mut [u64; 3])
 {
     let v = reader::judge(file);
     *answer = [v.number as u64, v.place as u64, 0];
+}
+
+// Writes the fresh state.
+#[no_mangle]
+pub extern "C" fn lampthistle_fresh(state: &mut [u32; 56])
+    ensures { λ _. ⌜ now (state .exit) ≡ cellsOf freshState ⌝ }
+{
+    let fresh = player::fresh();
+    *state = cells::cells_of(fresh);
+}
+
+// Plays the largest number of whole ticks, up to `ticks`, whose frames fit into out.
+#[no_mangle]
+pub extern "C" fn lampthistle_play(
+    file: &[u8],
+    state: &mut [u32; 56],
+    ticks: u32,
+    out: &mut [i16],
+    answer: &mut [u64; 3],
+)
+    ensures answered { λ _. ⌜ now (answer .exit) ≡ answerCells (playOf (now (file .entry)) (stateOf (now (state .entry))) ticks (now (out .entry)) .reply .answer) ⌝ }
+    ensures stated { λ _. ⌜ now (state .exit) ≡ cellsAfter (playOf (now (file .entry)) (stateOf (now (state .entry))) ticks (now (out .entry)) .reply) (now (state .entry)) ⌝ }
+    ensures sounded { λ _. ⌜ now (out .exit) ≡ playOf (now (file .entry)) (stateOf (now (state .entry))) ticks (now (out .entry)) .out ⌝ }
+{
+    let cells = *state;
+    let before = cells::state_of(state);
+    let reply = player::play(file, before, ticks, out);
+    *state = cells_after(cells, reply);
+    *answer = answer_cells(reply.answer);
+}
+
+// A touch: made on a page, at a clock, for a position of the song.
+#[no_mangle]
+pub extern "C" fn lampthistle_touch(
+    file: &[u8],
+    state: &mut [u32; 56],
+    page: u32,
+    made: u32,
+    position: u32,
+    answer: &mut [u64; 3],
+)
+    ensures answered { λ _. ⌜ now (answer .exit) ≡ answerCells (touchOf (now (file .entry)) (stateOf (now (state .entry))) page made position .answer) ⌝ }
+    ensures stated { λ _. ⌜ now (state .exit) ≡ cellsAfter (touchOf (now (file .entry)) (stateOf (now (state .entry))) page made position) (now (state .entry)) ⌝ }
+{
+    let cells = *state;
+    let before = cells::state_of(state);
+    let reply = player::touch(file, before, page, made, position);
+    *state = cells_after(cells, reply);
+    *answer = answer_cells(reply.answer);
+}
+
+// A page change.
+#[no_mangle]
+pub extern "C" fn lampthistle_change_page(file: &[u8], state: &mut [u32; 56], answer: &mut [u64; 3])
+    ensures answered { λ _. ⌜ now (answer .exit) ≡ answerCells (changePage (now (file .entry)) (stateOf (now (state .entry))) .answer) ⌝ }
+    ensures stated { λ _. ⌜ now (state .exit) ≡ cellsAfter (changePage (now (file .entry)) (stateOf (now (state .entry)))) (now (state .entry)) ⌝ }
+{
+    let cells = *state;
+    let before = cells::state_of(state);
+    let reply = player::change_page(file, before);
+    *state = cells_after(cells, reply);
+    *answer = answer_cells(reply.answer);
+}
+
+// Translates at most 65,535 ticks of a module, from fresh, to a stream in the room.
+#[no_mangle]
+pub extern "C" fn lampthistle_translate(
+    file: &[u8],
+    ticks: u32,
+    room: &mut [u8],
+    answer: &mut [u64; 3],
+)
+    ensures answered { λ _. ⌜ now (answer .exit) ≡ answerCells (translateOf (now (file .entry)) ticks (now (room .entry)) .answer) ⌝ }
+    ensures written { λ _. ⌜ now (room .exit) ≡ translateOf (now (file .entry)) ticks (now (room .entry)) .room ⌝ }
+{
+    let a = translator::translate(file, ticks, room);
+    *answer = answer_cells(a);
+}
+
+// Plays a stream with a module's samples.
+#[no_mangle]
+pub extern "C" fn lampthistle_play_stream(
+    stream: &[u8],
+    file: &[u8],
+    out: &mut [i16],
+    answer: &mut [u64; 3],
+)
+    ensures answered { λ _. ⌜ now (answer .exit) ≡ answerCells (playStream (now (file .entry)) (now (stream .entry)) (now (out .entry)) .answer) ⌝ }
+    ensures sounded { λ _. ⌜ now (out .exit) ≡ playStream (now (file .entry)) (now (stream .entry)) (now (out .entry)) .out ⌝ }
+{
+    let a = board::play_stream(stream, file, out);
+    *answer = answer_cells(a);
 }
