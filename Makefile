@@ -1,13 +1,23 @@
 # make lib                  the C library and its header, in out/
+# make demo                 writes a module, plays it, translates it, plays its stream, and compares; all in out/
 # make judge FILE=song.mod  judges a file
 # make test                 everything: the proofs, the programs, the host's tests (.ci/run)
-# make bench                the benchmarks
+# make host-test            the host's tests alone: c-test, robust and cargo's
+# make bench                the benchmarks; make bench-players: other players, where they can be installed
 # make compare COUNT=1000000 [SEED=0]   the proved library against the second implementation, on so many generated inputs
+# make install [PREFIX=/usr/local] [DESTDIR=]   command, library and header
 CARGO := cargo
 CC ?= cc
 CXX ?= c++
 COUNT ?= 1000000
 SEED ?= 0
+PREFIX ?= /usr/local
+
+C_WARNINGS := -Wall -Wextra -Werror -pedantic
+BUILT := host/target/release
+PLAY := $(BUILT)/lampthistle
+# The demo's song once through.
+DEMO_TICKS := 1470
 
 # One archive for C, C++ and every cargo profile.
 export LAMPTHISTLE_LIB_DIR := $(CURDIR)/out
@@ -20,8 +30,20 @@ lib: out/liblampthistle.a out/lampthistle.h
 judge: lib
 	@$(CARGO) run --release --locked --quiet -p lampthistle -- judge $(FILE)
 
+demo: all
+	$(BUILT)/demo out/demo.mod
+	$(PLAY) info out/demo.mod
+	$(PLAY) play out/demo.mod --ticks $(DEMO_TICKS) --out out/demo.wav
+	$(PLAY) translate out/demo.mod --ticks $(DEMO_TICKS) --out out/demo.stream
+	$(PLAY) board out/demo.stream out/demo.mod --out out/demo-board.wav
+	$(PLAY) compare out/demo.mod --ticks $(DEMO_TICKS)
+	cmp out/demo.wav out/demo-board.wav
+
 bench: lib
 	$(CARGO) run --release --locked --quiet -p trials --bin bench
+
+bench-players: all
+	scripts/players out
 
 compare: lib
 	$(CARGO) run --release --locked --quiet -p trials --bin compare -- $(COUNT) $(SEED)
@@ -30,13 +52,36 @@ test:
 	.ci/run
 
 # What the gate runs after the proofs.
-host-test: c-test
+host-test: c-test robust
 	$(CARGO) test --locked --quiet
 
-# The archive and the header as C and C++ users get them.
-c-test: lib
-	$(CC) -std=c99 -Wall -Wextra -Werror -pedantic -Iout host/c/smoke.c out/liblampthistle.a -o out/smoke_c && out/smoke_c
-	$(CXX) -std=c++11 -Wall -Wextra -Werror -pedantic -x c++ -Iout host/c/smoke.c -x none out/liblampthistle.a -o out/smoke_cc && out/smoke_cc
+# The archive and the header as C and C++ users get them, and the examples.
+c-test: demo
+	for part in smoke play stream; do \
+	    $(CC) -std=c99 $(C_WARNINGS) -Iout host/c/$$part.c out/liblampthistle.a -o out/$${part}_c && out/$${part}_c || exit 1; \
+	    $(CXX) -std=c++11 $(C_WARNINGS) -x c++ -Iout host/c/$$part.c -x none out/liblampthistle.a -o out/$${part}_cc \
+	        && out/$${part}_cc || exit 1; \
+	done
+	for part in panel board; do \
+	    $(CC) -std=c99 $(C_WARNINGS) -Iout examples/$$part.c out/liblampthistle.a -o out/$$part || exit 1; \
+	done
+	out/panel out/demo.mod out/panel.raw
+	$(PLAY) replay out/demo.mod examples/trial.txt --plain --out out/trial.raw >out/trial.txt; test $$? -eq 1
+	cmp -n $$(stat -c %s out/panel.raw) out/panel.raw out/trial.raw
+	out/board out/demo.stream out/demo.mod out/board.raw
+	$(PLAY) play out/demo.mod --ticks $(DEMO_TICKS) --out out/demo.raw
+	cmp out/board.raw out/demo.raw
+
+# The calls under a memory checker, on damaged inputs.
+robust: all
+	$(CC) -std=c99 -g $(C_WARNINGS) -Iout host/c/robust.c out/liblampthistle.a -o out/robust
+	rm -rf out/damaged && $(BUILT)/damaged out/damaged
+	scripts/memcheck out/robust out/damaged
+
+install: all
+	install -D -m 755 $(PLAY) $(DESTDIR)$(PREFIX)/bin/lampthistle
+	install -D -m 644 out/liblampthistle.a $(DESTDIR)$(PREFIX)/lib/liblampthistle.a
+	install -D -m 644 out/lampthistle.h $(DESTDIR)$(PREFIX)/include/lampthistle.h
 
 # rt says itself what is to be proved again, so this is asked every time.
 out/liblampthistle.a: FORCE
@@ -51,4 +96,4 @@ out/lampthistle.h: include/lampthistle.h
 clean:
 	rm -rf out target host/target
 
-.PHONY: all lib judge bench compare test host-test c-test clean FORCE
+.PHONY: all lib judge demo bench bench-players compare test host-test c-test robust install clean FORCE

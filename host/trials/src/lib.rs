@@ -1,4 +1,13 @@
 //! The proved library against the second implementation, on generated inputs, and what the benchmarks share.
+pub mod agreement;
+mod answers;
+pub mod bench;
 pub mod cases;
+pub mod demo;
 pub mod judging;
+pub mod lent;
+pub mod play_cases;
+pub mod playing;
+pub mod runs;
+pub mod streaming;
 pub mod timing;

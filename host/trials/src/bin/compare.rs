@@ -1,5 +1,19 @@
-//! compare COUNT [SEED]: the proved library against the second implementation, on COUNT generated inputs from a seed on.
+//! compare COUNT [SEED]: the proved library against the second implementation, and the player against the board, on generated inputs
+//! from a seed on: COUNT files to judge, and COUNT / 100 modules for each of the others.
 use std::process::ExitCode;
+use std::time::Instant;
+use trials::runs::{shown, Tally};
+use trials::{agreement, judging, playing, streaming};
+
+/// A trial's name, its run over so many seeds from one on, and by how much fewer of them it takes.
+type Trial = (&'static str, fn(u64, u64) -> Result<Tally, String>, u64);
+
+const TRIALS: [Trial; 4] = [
+    ("judge", judging::compare, 1),
+    ("play, touch, page", playing::compare, 100),
+    ("translate, play_stream", streaming::compare, 100),
+    ("player and board", agreement::compare, 100),
+];
 
 fn main() -> ExitCode {
     let numbers: Option<Vec<u64>> = std::env::args().skip(1).map(|w| w.parse().ok()).collect();
@@ -11,14 +25,21 @@ fn main() -> ExitCode {
             return ExitCode::from(2);
         }
     };
-    match trials::judging::compare(seed, count) {
-        Ok(tally) => {
-            println!("judge: {count} files, equal; by number, 0 accepted: {tally:?}");
-            ExitCode::SUCCESS
-        }
-        Err(what) => {
-            println!("judge: DIFFERENT: {what}");
-            ExitCode::FAILURE
+    let mut status = ExitCode::SUCCESS;
+    for (name, run, share) in TRIALS {
+        let seeds = count.div_ceil(share);
+        let began = Instant::now();
+        match run(seed, seeds) {
+            Ok(tally) => {
+                let took = began.elapsed().as_secs_f64();
+                let numbers = shown(&tally);
+                println!("{name}: {seeds} seeds, equal, {took:.1} s; answers by number: {numbers}");
+            }
+            Err(what) => {
+                println!("{name}: DIFFERENT: {what}");
+                status = ExitCode::FAILURE;
+            }
         }
     }
+    status
 }

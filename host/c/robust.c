@@ -1,0 +1,134 @@
+/* robust FOLDER: every call on the inputs 0.mod, 0.state, 0.stream, 1.mod, .. of a folder, to be run under a memory checker. Each input
+   and each lent buffer is a block of exactly its length; a second run lends parts of larger blocks with guard cells on both sides.
+   Buffers are filled with a pattern. Refused calls must change nothing, and no call may change its inputs or a guard cell. */
+#include "lampthistle.h"
+#include <stdio.h>
+#include <stdlib.h>
+#include <string.h>
+
+enum { GUARD = 32, PATTERN = 0x5A, KINDS = 24 };
+
+typedef struct block {
+    uint8_t *at;
+    size_t bytes;
+} block;
+
+typedef struct input {
+    block module, state, stream;
+} input;
+
+static unsigned long answers[KINDS];
+static int faults;
+
+static void check(int good, const char *what, int k) {
+    if (!good) printf("input %d: %s\n", k, what);
+    faults += !good;
+}
+
+static block new_block(size_t bytes) {
+    block b;
+    b.at = (uint8_t *)malloc(bytes);
+    b.bytes = bytes;
+    if (!b.at) exit(2);
+    memset(b.at, PATTERN, bytes);
+    return b;
+}
+
+/* Whether all of the block but `bytes` from `from` on holds the pattern. */
+static int kept(block b, size_t from, size_t bytes) {
+    for (size_t i = 0; i < b.bytes; i++)
+        if ((i < from || i >= from + bytes) && b.at[i] != PATTERN) return 0;
+    return 1;
+}
+
+static int load(const char *folder, int k, const char *kind, block *to) {
+    char name[4096];
+    long bytes;
+    FILE *in;
+    snprintf(name, sizeof name, "%s/%d.%s", folder, k, kind);
+    in = fopen(name, "rb");
+    if (!in) return 0;
+    fseek(in, 0, SEEK_END);
+    bytes = ftell(in);
+    rewind(in);
+    *to = new_block((size_t)bytes);
+    if (fread(to->at, 1, to->bytes, in) != to->bytes) exit(2);
+    return fclose(in) == 0;
+}
+
+static void count(const uint64_t answer[3], int k) {
+    check(answer[0] < KINDS, "an unknown number", k);
+    check(answer[0] == 0 || answer[2] == 0, "a refusal with a count", k);
+    if (answer[0] < KINDS) answers[answer[0]]++;
+}
+
+/* The calls that write a buffer, on a part of a block. */
+static void buffers(const input *in, int k, size_t numbers, size_t guard) {
+    uint64_t answer[3];
+    uint32_t state[LAMPTHISTLE_STATE_CELLS];
+    size_t bytes = numbers * sizeof(int16_t);
+    block out = new_block(bytes + 2 * guard), board = new_block(bytes + 2 * guard), room = new_block(numbers + 2 * guard);
+
+    memcpy(state, in->state.at, sizeof state);
+    lampthistle_play(in->module.at, in->module.bytes, state, 3, (int16_t *)(out.at + guard), numbers, answer);
+    count(answer, k);
+    check(kept(out, guard, answer[0] == 0 ? bytes : 0), "play wrote outside", k);
+    check(answer[0] == 0 || memcmp(state, in->state.at, sizeof state) == 0, "a refused play changed the state", k);
+
+    lampthistle_play_stream(in->stream.at, in->stream.bytes, in->module.at, in->module.bytes, (int16_t *)(board.at + guard), numbers,
+                            answer);
+    count(answer, k);
+    check(kept(board, guard, answer[0] == 0 ? bytes : 0), "play_stream wrote outside", k);
+
+    lampthistle_translate(in->module.at, in->module.bytes, 5, room.at + guard, numbers, answer);
+    count(answer, k);
+    check(kept(room, guard, answer[2]), "translate wrote outside", k);
+    free(out.at), free(board.at), free(room.at);
+}
+
+/* The calls that write a state, which is a block of its own. */
+static void states(const input *in, int k) {
+    uint64_t answer[3];
+    block state = new_block(sizeof(lampthistle_state));
+    uint32_t *cells = (uint32_t *)(void *)state.at;
+    memcpy(cells, in->state.at, state.bytes);
+    lampthistle_judge(in->module.at, in->module.bytes, answer);
+    count(answer, k);
+    lampthistle_touch(in->module.at, in->module.bytes, cells, cells[LAMPTHISTLE_PAGE], cells[LAMPTHISTLE_CLOCK], 0, answer);
+    count(answer, k);
+    check(answer[0] == 0 || memcmp(cells, in->state.at, state.bytes) == 0, "a refused touch changed the state", k);
+    memcpy(cells, in->state.at, state.bytes);
+    lampthistle_change_page(in->module.at, in->module.bytes, cells, answer);
+    count(answer, k);
+    check(answer[0] == 0 || memcmp(cells, in->state.at, state.bytes) == 0, "a refused page change changed the state", k);
+    lampthistle_fresh(cells);
+    check(cells[LAMPTHISTLE_SPEED] == 6, "fresh", k);
+    free(state.at);
+}
+
+static uint32_t sum(block b) {
+    uint32_t h = 1;
+    for (size_t i = 0; i < b.bytes; i++) h = h * 31 + b.at[i];
+    return h;
+}
+
+int main(int words, char **word) {
+    static const size_t LENGTHS[] = {0, 1, 939, 1920, 3001, 7500};
+    int k = 0;
+    input in;
+    if (words != 2) return fprintf(stderr, "usage: robust FOLDER\n"), 2;
+    for (; load(word[1], k, "mod", &in.module) && load(word[1], k, "state", &in.state) && load(word[1], k, "stream", &in.stream); k++) {
+        uint32_t before = sum(in.module) ^ sum(in.stream) ^ sum(in.state);
+        size_t numbers = LENGTHS[k % (sizeof LENGTHS / sizeof LENGTHS[0])];
+        states(&in, k);
+        buffers(&in, k, numbers, 0);
+        buffers(&in, k, numbers, GUARD);
+        check(before == (sum(in.module) ^ sum(in.stream) ^ sum(in.state)), "an input was changed", k);
+        free(in.module.at), free(in.state.at), free(in.stream.at);
+    }
+    printf("robust: %d inputs, %d faults; answers by number:", k, faults);
+    for (int number = 0; number < KINDS; number++)
+        if (answers[number]) printf(" %d: %lu", number, answers[number]);
+    puts("");
+    return k == 0 || faults != 0;
+}

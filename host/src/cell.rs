@@ -1,0 +1,38 @@
+//! The cells of a state by name, as in lampthistle.h.
+
+pub const POSITION: usize = 0;
+pub const ROW: usize = 1;
+/// The tick in the row, from 0.
+pub const TICK: usize = 2;
+pub const DELAY: usize = 3;
+pub const NEXT_POSITION: usize = 4;
+pub const NEXT_ROW: usize = 5;
+pub const LOOP_ROW: usize = 6;
+pub const LOOP_COUNT: usize = 7;
+pub const SPEED: usize = 8;
+pub const TEMPO: usize = 9;
+/// Ticks played, modulo 2^32.
+pub const CLOCK: usize = 10;
+pub const PAGE: usize = 11;
+/// The four channels' cells begin here.
+pub const FIRST_CHANNEL: usize = 12;
+
+/// Where a channel's cells begin; channels from 0.
+pub const fn channel(channel: usize) -> usize {
+    FIRST_CHANNEL + CHANNEL_CELLS * channel
+}
+
+/// A channel's cells, from its first on.
+pub const LATCHED_SAMPLE: usize = 0;
+pub const VOLUME: usize = 1;
+pub const PERIOD: usize = 2;
+pub const TARGET: usize = 3;
+pub const SLIDE_MEMORY: usize = 4;
+pub const VOICE_SAMPLE: usize = 5;
+pub const VOICE_PERIOD: usize = 6;
+pub const VOICE_VOLUME: usize = 7;
+pub const VOICE_INDEX: usize = 8;
+pub const VOICE_FRACTION: usize = 9;
+/// 0 or 1.
+pub const VOICE_STOPPED: usize = 10;
+pub const CHANNEL_CELLS: usize = 11;

@@ -1,0 +1,123 @@
+//! info FILE: what an accepted module holds, read by offset.
+use super::judge::{line, plain};
+use super::output::say;
+use super::words::Words;
+use super::{input, Command, Stop};
+
+pub const COMMAND: Command = Command {
+    name: "info",
+    options: &[],
+    help: "\
+lampthistle info [--plain] FILE
+
+Shows a module's title, song length, pattern count, table, and its samples with lengths, volumes and loops, in bytes.
+--plain prints NUMBER PLACE COUNT of the judging; then song length and pattern count; the played table entries; and a line a sample
+that has bytes: its number, length, volume, loop start and loop length, 0 0 without a loop.
+
+Example:
+  lampthistle info song.mod
+
+Exit status: 0 accepted; 1 refused; 2 wrong use, or a file that cannot be read.
+",
+    run,
+};
+
+const TITLE: std::ops::Range<usize> = 0..20;
+const HEADERS: std::ops::Range<usize> = 20..950;
+const HEADER_BYTES: usize = 30;
+const NAME_BYTES: usize = 22;
+const SONG_LENGTH: usize = 950;
+const TABLE: std::ops::Range<usize> = 952..1080;
+
+struct Header<'a> {
+    number: usize,
+    name: &'a [u8],
+    length: u32,
+    volume: u8,
+    loop_start: u32,
+    loop_length: u32,
+}
+
+fn run(words: &Words) -> Result<bool, Stop> {
+    let [source] = input::read_all(words.files(["FILE"])?)?;
+    let answer = lampthistle::judge(&source.bytes);
+    if !answer.is_accepted() {
+        return say(&line(words, &source.name, &answer)).map(|()| false);
+    }
+    let file = &source.bytes;
+    let patterns = file[TABLE]
+        .iter()
+        .max()
+        .map_or(0, |&last| last as usize + 1);
+    let played = &file[TABLE][..file[SONG_LENGTH].into()];
+    let table: Vec<String> = played.iter().map(u8::to_string).collect();
+    let mut text = String::new();
+    if words.plain {
+        text += &plain(&answer);
+        text += &format!("{} {patterns}\n{}\n", played.len(), table.join(" "));
+    } else {
+        text += format!("title        {}", readable(&file[TITLE])).trim_end();
+        text.push('\n');
+        text += &format!("song length  {}\n", played.len());
+        text += &format!("patterns     {patterns}\n");
+        text += &format!("table        {}\n", table.join(" "));
+        text += "sample  bytes   volume  loop             name\n";
+    }
+    for header in headers(file).filter(|header| header.length > 0) {
+        text += &sample_line(words, &header);
+    }
+    say(&text).map(|()| true)
+}
+
+fn headers(file: &[u8]) -> impl Iterator<Item = Header<'_>> {
+    let word =
+        |bytes: &[u8], at: usize| 2 * (u32::from(bytes[at]) * 256 + u32::from(bytes[at + 1]));
+    let all = file[HEADERS].chunks_exact(HEADER_BYTES).enumerate();
+    all.map(move |(k, bytes)| Header {
+        number: k + 1,
+        name: &bytes[..NAME_BYTES],
+        length: word(bytes, 22),
+        volume: bytes[25],
+        loop_start: word(bytes, 26),
+        loop_length: word(bytes, 28),
+    })
+}
+
+fn sample_line(words: &Words, header: &Header) -> String {
+    let Header {
+        number,
+        length,
+        volume,
+        ..
+    } = header;
+    // A repeat length of one word, two bytes, is no loop.
+    let (start, repeat) = if header.loop_length > 2 {
+        (header.loop_start, header.loop_length)
+    } else {
+        (0, 0)
+    };
+    if words.plain {
+        return format!("{number} {length} {volume} {start} {repeat}\n");
+    }
+    let looped = if repeat > 0 {
+        format!("{start} to {}", start + repeat)
+    } else {
+        "none".into()
+    };
+    let name = readable(header.name);
+    format!("{number:>6}  {length:>6}  {volume:>6}  {looped:<15}  {name}")
+        .trim_end()
+        .to_string()
+        + "\n"
+}
+
+/// Text of a file up to its first zero byte, with a dot for what does not print.
+fn readable(bytes: &[u8]) -> String {
+    let text = bytes.split(|&byte| byte == 0).next().unwrap_or(bytes);
+    text.iter()
+        .map(|&byte| match byte {
+            b' '..=b'~' => char::from(byte),
+            _ => '.',
+        })
+        .collect()
+}

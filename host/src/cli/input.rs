@@ -1,0 +1,75 @@
+//! Reading the files that are named.
+use super::Stop;
+use std::ffi::OsStr;
+use std::fs::File;
+use std::io::{self, Read};
+use std::os::unix::fs::MetadataExt;
+
+/// Bytes read at most, so that a file without an end, such as /dev/zero, does not fill the memory.
+const MOST_BYTES: u64 = 1 << 28;
+
+/// Which file it is, by device and number.
+pub type Identity = (u64, u64);
+
+/// A file's name as messages show it, and its bytes.
+pub struct Source {
+    pub name: String,
+    pub bytes: Vec<u8>,
+    pub identity: Option<Identity>,
+}
+
+/// A name for a message, without control characters.
+pub fn shown(name: &OsStr) -> String {
+    let text = name.to_string_lossy();
+    text.replace(|c: char| c.is_control(), "?")
+}
+
+/// Reads the files; standard input, named -, at most once.
+pub fn read_all<const N: usize>(names: [&OsStr; N]) -> Result<[Source; N], Stop> {
+    if names.iter().filter(|name| **name == "-").count() > 1 {
+        return Err(twice());
+    }
+    let mut sources = Vec::with_capacity(N);
+    for name in names {
+        sources.push(read(name)?);
+    }
+    sources
+        .try_into()
+        .map_err(|_| Stop::Cannot("not all files were read".into()))
+}
+
+pub fn twice() -> Stop {
+    Stop::Usage("standard input (-) can be read only once".into())
+}
+
+pub fn read(name: &OsStr) -> Result<Source, Stop> {
+    if name == "-" {
+        return read_from("standard input".into(), io::stdin().lock(), None);
+    }
+    let text = shown(name);
+    let file = File::open(name).map_err(|e| Stop::Io(text.clone(), e))?;
+    let identity = identity(&file);
+    read_from(text, file, identity)
+}
+
+fn read_from(name: String, from: impl Read, identity: Option<Identity>) -> Result<Source, Stop> {
+    let mut bytes = Vec::new();
+    if let Err(e) = from.take(MOST_BYTES + 1).read_to_end(&mut bytes) {
+        return Err(Stop::Io(name, e));
+    }
+    if bytes.len() as u64 > MOST_BYTES {
+        return Err(Stop::Cannot(format!(
+            "{name}: larger than {MOST_BYTES} bytes"
+        )));
+    }
+    Ok(Source {
+        name,
+        bytes,
+        identity,
+    })
+}
+
+pub fn identity(file: &File) -> Option<Identity> {
+    let about = file.metadata().ok()?;
+    about.is_file().then(|| (about.dev(), about.ino()))
+}

@@ -1,0 +1,65 @@
+//! judge FILE..: a line a file.
+use super::output::say;
+use super::words::Words;
+use super::{input, Command, Stop};
+use lampthistle::Answer;
+
+pub const COMMAND: Command = Command {
+    name: "judge",
+    options: &[],
+    help: "\
+lampthistle judge [--plain] FILE..
+
+Says whether each file is a module that can be played: a line a file, accepted, or the refusal's number, place and meaning.
+--plain prints NUMBER PLACE COUNT instead.
+
+Example:
+  lampthistle judge song.mod
+  song.mod: refused 9 at 1484: a cell's period is neither 0 nor 113 to 856
+
+Exit status: 0 all accepted; 1 one refused; 2 wrong use, or a file that cannot be read.
+",
+    run,
+};
+
+fn run(words: &Words) -> Result<bool, Stop> {
+    if words.files.is_empty() {
+        return Err(Stop::Usage("no FILE".into()));
+    }
+    if words.files.iter().filter(|name| *name == "-").count() > 1 {
+        return Err(input::twice());
+    }
+    let (mut all, mut read) = (true, true);
+    for name in &words.files {
+        match input::read(name) {
+            Ok(source) => {
+                let answer = lampthistle::judge(&source.bytes);
+                all &= answer.is_accepted();
+                say(&line(words, &source.name, &answer))?;
+            }
+            // The other files are judged all the same.
+            Err(stop) => {
+                stop.tell();
+                read = false;
+            }
+        }
+    }
+    if read {
+        Ok(all)
+    } else {
+        Err(Stop::Told)
+    }
+}
+
+/// An answer as a line: with the name and the meaning, or bare.
+pub fn line(words: &Words, name: &str, answer: &Answer) -> String {
+    if words.plain {
+        plain(answer)
+    } else {
+        format!("{name}: {answer}\n")
+    }
+}
+
+pub fn plain(answer: &Answer) -> String {
+    format!("{} {} {}\n", answer.number, answer.place, answer.count)
+}

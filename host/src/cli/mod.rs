@@ -1,0 +1,131 @@
+//! The commands, and how the program ends: 0 accepted; 1 refused or different; 2 wrong use, or a file that cannot be read or written.
+mod compare;
+mod info;
+mod input;
+mod judge;
+mod output;
+mod play;
+mod progress;
+mod records;
+mod replay;
+mod stream;
+mod trace;
+mod words;
+
+use std::ffi::OsString;
+use std::io::{self, Write};
+use std::process::ExitCode;
+use words::Words;
+
+/// Why the program ends with 2.
+enum Stop {
+    Usage(String),
+    /// A name, and what the system says of it.
+    Io(String, io::Error),
+    Cannot(String),
+    /// The reason is on standard error already.
+    Told,
+}
+
+/// One command: its options that take a value, its help, and its work, which says whether all was accepted.
+struct Command {
+    name: &'static str,
+    options: &'static [&'static str],
+    help: &'static str,
+    run: fn(&Words) -> Result<bool, Stop>,
+}
+
+const COMMANDS: [&Command; 8] = [
+    &judge::COMMAND,
+    &info::COMMAND,
+    &play::COMMAND,
+    &stream::TRANSLATE,
+    &stream::BOARD,
+    &trace::COMMAND,
+    &replay::COMMAND,
+    &compare::COMMAND,
+];
+
+const HELP: &str = "\
+lampthistle: plays four-channel ProTracker modules (M.K.) with the proved library
+
+  lampthistle judge FILE..                         whether each file is a module that can be played
+  lampthistle info FILE                            title, song, patterns and samples
+  lampthistle play FILE --out OUT                  renders the module to OUT (.wav, .raw or -)
+  lampthistle translate FILE --ticks N --out OUT   writes the tick stream of the first N ticks
+  lampthistle board STREAM FILE --out OUT          plays a tick stream with the module's samples
+  lampthistle trace FILE                           a line a tick: tempo and the channels' registers
+  lampthistle replay FILE SCRIPT                   runs a trial record again: play, touch, page
+  lampthistle compare FILE                         plays the module and its stream and compares them
+  lampthistle COMMAND --help                       more on a command, with an example
+  lampthistle --version
+
+A file named - is standard input. --plain prints bare numbers: NUMBER PLACE COUNT, with number 0 for accepted.
+
+Example:
+  lampthistle play song.mod --seconds 30 --out song.wav
+
+Exit status: 0 accepted; 1 refused or different; 2 wrong use, or a file that cannot be read or written.
+";
+
+/// Runs the command that the words name.
+pub fn run(words: &[OsString]) -> ExitCode {
+    match dispatch(words) {
+        Ok(true) => ExitCode::SUCCESS,
+        Ok(false) => ExitCode::from(1),
+        Err(stop) => {
+            stop.tell();
+            ExitCode::from(2)
+        }
+    }
+}
+
+fn dispatch(words: &[OsString]) -> Result<bool, Stop> {
+    let Some(first) = words.first() else {
+        return Err(Stop::Usage("no command\nTry: lampthistle --help".into()));
+    };
+    match first.to_str() {
+        Some("--help" | "-h" | "help") => output::say(HELP).map(|()| true),
+        Some("--version") => {
+            output::say(concat!("lampthistle ", env!("CARGO_PKG_VERSION"), "\n")).map(|()| true)
+        }
+        name => match COMMANDS.iter().find(|c| Some(c.name) == name) {
+            Some(command) => run_command(command, &words[1..]),
+            None => Err(Stop::Usage(format!(
+                "no such command: {}\nTry: lampthistle --help",
+                input::shown(first)
+            ))),
+        },
+    }
+}
+
+fn run_command(command: &Command, words: &[OsString]) -> Result<bool, Stop> {
+    let asked = Words::parse(words, command.options).and_then(|words| {
+        if words.help {
+            output::say(command.help).map(|()| true)
+        } else {
+            (command.run)(&words)
+        }
+    });
+    asked.map_err(|stop| match stop {
+        Stop::Usage(what) => Stop::Usage(format!(
+            "{0}: {what}\nTry: lampthistle {0} --help",
+            command.name
+        )),
+        other => other,
+    })
+}
+
+impl Stop {
+    /// Says on standard error why; a closed pipe is the reader's choice, and nothing to report.
+    fn tell(&self) {
+        let text = match self {
+            Stop::Io(_, e) if e.kind() == io::ErrorKind::BrokenPipe => return,
+            Stop::Told => return,
+            Stop::Usage(what) | Stop::Cannot(what) => what.clone(),
+            Stop::Io(name, e) => format!("{name}: {e}"),
+        };
+        // Nothing more can be done if standard error is closed, too.
+        let _ = writeln!(io::stderr(), "lampthistle: {text}");
+    }
+}

@@ -1,0 +1,139 @@
+//! Playing a module: states, ticks, touches and page changes.
+use crate::{cell, Answer};
+
+mod sys {
+    use super::STATE_CELLS;
+
+    extern "C" {
+        pub fn lampthistle_fresh(state: *mut [u32; STATE_CELLS]);
+        pub fn lampthistle_play(
+            file: *const u8,
+            file_len: usize,
+            state: *mut [u32; STATE_CELLS],
+            ticks: u32,
+            out: *mut i16,
+            out_len: usize,
+            answer: *mut [u64; 3],
+        );
+        pub fn lampthistle_touch(
+            file: *const u8,
+            file_len: usize,
+            state: *mut [u32; STATE_CELLS],
+            page: u32,
+            made: u32,
+            position: u32,
+            answer: *mut [u64; 3],
+        );
+        pub fn lampthistle_change_page(
+            file: *const u8,
+            file_len: usize,
+            state: *mut [u32; STATE_CELLS],
+            answer: *mut [u64; 3],
+        );
+    }
+}
+
+/// Frames a second; a frame is two numbers, left first.
+pub const RATE: u32 = 48_000;
+
+/// The most numbers that one tick takes: 3,750 frames at tempo 32.
+pub const TICK_NUMBERS: usize = 7_500;
+
+/// The frames of a tick at this tempo. 0 at tempo 0, which is not legal.
+pub fn tick_frames(tempo: u32) -> usize {
+    120_000u32.checked_div(tempo).unwrap_or(0) as usize
+}
+
+/// The cells of a state.
+pub const STATE_CELLS: usize = 56;
+
+/// Where a song is and how its voices sound, in plain numbers; `cell` names them.
+///
+/// Any numbers may stand in the cells; each call judges them.
+#[derive(Clone, Copy, Debug, PartialEq, Eq)]
+pub struct State(pub [u32; STATE_CELLS]);
+
+impl State {
+    pub fn position(&self) -> u32 {
+        self.0[cell::POSITION]
+    }
+
+    pub fn row(&self) -> u32 {
+        self.0[cell::ROW]
+    }
+
+    /// The tick in the row, from 0.
+    pub fn tick(&self) -> u32 {
+        self.0[cell::TICK]
+    }
+
+    pub fn tempo(&self) -> u32 {
+        self.0[cell::TEMPO]
+    }
+
+    /// The ticks played so far, modulo 2^32.
+    pub fn clock(&self) -> u32 {
+        self.0[cell::CLOCK]
+    }
+
+    pub fn page(&self) -> u32 {
+        self.0[cell::PAGE]
+    }
+
+    /// The frames of the tick played last: the tempo that a tick leaves in the state is the one that it had.
+    pub fn last_tick_frames(&self) -> usize {
+        tick_frames(self.tempo())
+    }
+}
+
+/// The state before the first tick of any song.
+pub fn fresh() -> State {
+    let mut cells = [0; STATE_CELLS];
+    // SAFETY: nothing else reaches the cells during the call.
+    unsafe { sys::lampthistle_fresh(&mut cells) };
+    State(cells)
+}
+
+/// Plays the largest number of whole ticks, up to `ticks`, whose frames fit into `out`, and counts them. The rest of `out` stays.
+pub fn play(file: &[u8], state: &mut State, ticks: u32, out: &mut [i16]) -> Answer {
+    let mut answer = [0; 3];
+    // SAFETY: the pointers are good for their lengths, and the exclusive borrows keep them apart.
+    unsafe {
+        sys::lampthistle_play(
+            file.as_ptr(),
+            file.len(),
+            &mut state.0,
+            ticks,
+            out.as_mut_ptr(),
+            out.len(),
+            &mut answer,
+        )
+    };
+    Answer::from_cells(answer)
+}
+
+/// Takes a touch made on `page` at clock `made`: the song goes to the beginning of `position`.
+pub fn touch(file: &[u8], state: &mut State, page: u32, made: u32, position: u32) -> Answer {
+    let mut answer = [0; 3];
+    // SAFETY: the pointer is good for its length, and the exclusive borrow keeps the state apart from it.
+    unsafe {
+        sys::lampthistle_touch(
+            file.as_ptr(),
+            file.len(),
+            &mut state.0,
+            page,
+            made,
+            position,
+            &mut answer,
+        )
+    };
+    Answer::from_cells(answer)
+}
+
+/// Goes to the next page: touches made on the page before are refused from now on.
+pub fn change_page(file: &[u8], state: &mut State) -> Answer {
+    let mut answer = [0; 3];
+    // SAFETY: the pointer is good for its length, and the exclusive borrow keeps the state apart from it.
+    unsafe { sys::lampthistle_change_page(file.as_ptr(), file.len(), &mut state.0, &mut answer) };
+    Answer::from_cells(answer)
+}

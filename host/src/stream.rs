@@ -1,0 +1,64 @@
+//! Tick streams: translating a module, and playing a stream as the sound board does.
+use crate::Answer;
+
+mod sys {
+    extern "C" {
+        pub fn lampthistle_translate(
+            file: *const u8,
+            file_len: usize,
+            ticks: u32,
+            room: *mut u8,
+            room_len: usize,
+            answer: *mut [u64; 3],
+        );
+        pub fn lampthistle_play_stream(
+            stream: *const u8,
+            stream_len: usize,
+            file: *const u8,
+            file_len: usize,
+            out: *mut i16,
+            out_len: usize,
+            answer: *mut [u64; 3],
+        );
+    }
+}
+
+/// The most ticks that one translation takes.
+pub const MOST_TICKS: u32 = 65_535;
+
+/// Writes the stream of the module's first `ticks` ticks into `room` and counts its bytes. Room past them stays. Where the room is too
+/// short, the place is the length needed: an empty room asks for it.
+pub fn translate(file: &[u8], ticks: u32, room: &mut [u8]) -> Answer {
+    let mut answer = [0; 3];
+    // SAFETY: the pointers are good for their lengths, and the exclusive borrow keeps the room apart from the file.
+    unsafe {
+        sys::lampthistle_translate(
+            file.as_ptr(),
+            file.len(),
+            ticks,
+            room.as_mut_ptr(),
+            room.len(),
+            &mut answer,
+        )
+    };
+    Answer::from_cells(answer)
+}
+
+/// Plays the largest number of the stream's ticks whose frames fit into `out`, with the samples of the module in `file`, and counts
+/// them. The rest of `out` stays. It always begins at the stream's first tick, with stopped voices.
+pub fn play_stream(stream: &[u8], file: &[u8], out: &mut [i16]) -> Answer {
+    let mut answer = [0; 3];
+    // SAFETY: the pointers are good for their lengths, and the exclusive borrow keeps `out` apart from the others.
+    unsafe {
+        sys::lampthistle_play_stream(
+            stream.as_ptr(),
+            stream.len(),
+            file.as_ptr(),
+            file.len(),
+            out.as_mut_ptr(),
+            out.len(),
+            &mut answer,
+        )
+    };
+    Answer::from_cells(answer)
+}

@@ -1,0 +1,125 @@
+//! What each command prints and writes.
+use crate::common::{own, run, stored, told};
+use lampthistle::{fresh, play};
+
+#[test]
+fn judge_answers_a_line_a_file() {
+    let bad = own("judge_bad.mod");
+    let mut file = std::fs::read(stored("flow")).unwrap();
+    file[1080] = b'm';
+    std::fs::write(&bad, file).unwrap();
+    let (good, bad) = (stored("flow"), bad.to_str().unwrap());
+    let (status, out, err) = told(&["judge", &good, bad]);
+    let lines =
+        format!("{good}: accepted\n{bad}: refused 2 at 1080: the tag at byte 1080 is not M.K.\n");
+    assert_eq!((status, out, err), (1, lines, String::new()));
+    let (status, out, _) = told(&["judge", "--plain", &good, bad]);
+    assert_eq!((status, out.as_str()), (1, "0 0 0\n2 1080 0\n"));
+    assert_eq!(told(&["judge", &good]).0, 0);
+}
+
+#[test]
+fn info_shows_what_a_module_holds() {
+    let (status, out, _) = told(&["info", "--plain", &stored("edges")]);
+    let lines = "0 0 0\n1 1\n0\n1 12 64 4 6\n2 40 64 0 0\n3 4 64 0 4\n31 512 1 200 56\n";
+    assert_eq!((status, out.as_str()), (0, lines));
+    let (status, out, _) = told(&["info", &stored("flow")]);
+    assert_eq!(status, 0);
+    assert!(out.contains("table        0 1 0\n"), "{out}");
+}
+
+#[test]
+fn play_writes_the_frames_of_the_library() {
+    let (raw, wav) = (own("play.raw"), own("play.wav"));
+    let module = stored("effects");
+    for out in [&raw, &wav] {
+        let words = ["play", &module, "--ticks", "30", "--plain", "--out"];
+        let mut words = words.map(String::from).to_vec();
+        words.push(out.to_str().unwrap().into());
+        assert_eq!(told(&words), (0, "0 0 30\n".into(), String::new()));
+    }
+    let file = std::fs::read(&module).unwrap();
+    let mut numbers = vec![0; 30 * 2 * 470];
+    assert_eq!(play(&file, &mut fresh(), 30, &mut numbers).count, 30);
+    let bytes: Vec<u8> = numbers.iter().flat_map(|n| n.to_le_bytes()).collect();
+    assert!(std::fs::read(raw).unwrap() == bytes);
+    let wav = std::fs::read(wav).unwrap();
+    assert!(wav[44..] == bytes);
+    assert_eq!(&wav[..4], b"RIFF");
+    assert_eq!(wav[4..8], (bytes.len() as u32 + 36).to_le_bytes());
+    assert_eq!(wav[40..44], (bytes.len() as u32).to_le_bytes());
+}
+
+#[test]
+fn play_by_seconds_takes_whole_ticks() {
+    let words = ["play", &stored("effects"), "--seconds", "0.1", "--out", "-"];
+    let output = run(&words);
+    // 4,800 frames take ten ticks of 470.
+    assert_eq!(output.stdout.len(), 10 * 470 * 4);
+    let told = String::from_utf8(output.stderr).unwrap();
+    assert!(
+        told.ends_with("played 10 ticks, 4700 frames, 0.098 seconds\n"),
+        "{told}"
+    );
+}
+
+#[test]
+fn replay_answers_each_call() {
+    let script = own("replay.txt");
+    let lines = "# a trial\nplay 5\n\ntouch 0 3 1\n page \ntouch 0 5 1\ntouch 1 5 3\nplay 0\n";
+    std::fs::write(&script, lines).unwrap();
+    let words = [
+        "replay",
+        "--plain",
+        &stored("flow"),
+        script.to_str().unwrap(),
+    ];
+    let (status, out, _) = told(&words);
+    let answers = "0 0 5 5 0 0 1 2\n0 0 0 5 0 1 0 0\n0 0 0 5 1 1 0 0\n16 0 0 5 1 1 0 0\n18 0 0 5 1 1 0 0\n0 0 0 5 1 1 0 0\n";
+    assert_eq!((status, out.as_str()), (1, answers));
+}
+
+#[test]
+fn replay_names_a_bad_line() {
+    let script = own("bad_line.txt");
+    for line in [
+        "play",
+        "play -1",
+        "play 4294967296",
+        "touch 1 2",
+        "pages",
+        "page 1",
+    ] {
+        std::fs::write(&script, format!("play 1\n{line}\n")).unwrap();
+        let words = ["replay", &stored("flow"), script.to_str().unwrap()];
+        let (status, out, err) = told(&words);
+        assert_eq!((status, out.as_str()), (2, ""), "{line}");
+        assert!(err.contains("bad_line.txt:2: "), "{err}");
+    }
+}
+
+#[test]
+fn every_command_has_help_with_an_example() {
+    let commands = [
+        "judge",
+        "info",
+        "play",
+        "translate",
+        "board",
+        "trace",
+        "replay",
+        "compare",
+    ];
+    let (status, all, _) = told(&["--help"]);
+    assert_eq!(status, 0);
+    for command in commands {
+        let (status, help, err) = told(&[command, "--help"]);
+        assert_eq!((status, err.as_str()), (0, ""));
+        assert!(help.contains("Example"), "{command}");
+        assert!(help.contains("Exit status: 0"), "{command}");
+        assert!(
+            all.contains(&format!("lampthistle {command} ")),
+            "{command}"
+        );
+    }
+}

@@ -1,0 +1,5 @@
+//! The command line, run as a person or a script runs it.
+mod commands;
+mod common;
+mod robust;
+mod streams;

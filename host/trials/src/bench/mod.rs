@@ -1,0 +1,14 @@
+//! The benchmarks, each a part of one table: medians of 101 runs.
+mod judging;
+mod mixing;
+mod modules;
+mod streaming;
+mod ticks;
+
+/// Prints the whole table.
+pub fn table() {
+    judging::print();
+    mixing::print();
+    ticks::print();
+    streaming::print();
+}

@@ -1,0 +1,79 @@
+//! The modules that the benchmarks play.
+use second::generate::draft::Draft;
+use second::generate::Random;
+
+/// 64 patterns of good cells, so that judging takes its longest, and 31 samples of 1,024 words, the half of them looped.
+pub fn large() -> Vec<u8> {
+    let mut draft = Draft::empty();
+    draft.song_length = 64;
+    for (place, entry) in draft.table[..64].iter_mut().enumerate() {
+        *entry = place as u8;
+    }
+    draft.patterns = vec![draft.patterns[0]; 64];
+    let mut random = Random::new(1);
+    for cell in draft.patterns.iter_mut().flatten() {
+        if random.chance(50) {
+            cell.period = random.pick(&[113, 214, 428, 856]);
+            cell.sample = random.between(0, 31);
+        }
+        cell.parameter = random.below(256);
+    }
+    for number in 1..=31 {
+        draft.add_looped(
+            number,
+            64,
+            0,
+            number as u32 % 2 * 1024,
+            &noise(number as u64),
+        );
+    }
+    accepted(draft.bytes())
+}
+
+/// The bytes of a sample, and the words of its loop in `held` and `busy`.
+pub const SAMPLE_BYTES: usize = 2_048;
+pub const LOOP_START: u32 = 100;
+pub const LOOP_LENGTH: u32 = 900;
+
+/// Four looped samples and one empty pattern.
+fn four_samples() -> Draft {
+    let mut draft = Draft::empty();
+    for number in 1..=4 {
+        let bytes = noise(number as u64);
+        draft.add_looped(number, 64, LOOP_START, LOOP_LENGTH, &bytes);
+    }
+    draft
+}
+
+/// Four looped samples and nothing to do: a state's voices sound on.
+pub fn held() -> Vec<u8> {
+    accepted(four_samples().bytes())
+}
+
+/// Four looped samples and one pattern: a note on each channel in every fourth row, arpeggios and slides between.
+pub fn busy() -> Vec<u8> {
+    let mut draft = four_samples();
+    for row in 0..64 {
+        for channel in 0..4 {
+            let (sample, period, effect) = match row % 4 {
+                0 => (channel as u32 + 1, [428, 285, 214, 160][channel], 0x047),
+                1 => (0, 0, 0x102),
+                2 => (0, 0, 0x202),
+                _ => (0, 0, 0x037),
+            };
+            draft.put(0, row, channel, sample, period, effect);
+        }
+    }
+    accepted(draft.bytes())
+}
+
+/// Bytes of a sample.
+fn noise(seed: u64) -> Vec<u8> {
+    let mut random = Random::new(seed);
+    (0..SAMPLE_BYTES).map(|_| random.byte()).collect()
+}
+
+fn accepted(file: Vec<u8>) -> Vec<u8> {
+    assert!(lampthistle::judge(&file).is_accepted());
+    file
+}

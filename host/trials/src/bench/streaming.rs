@@ -1,0 +1,63 @@
+//! Translation, ns a tick; and the board against the player on the same module, ns a frame.
+use super::modules::busy;
+use crate::timing::print_medians;
+use lampthistle::MOST_TICKS;
+use std::hint::black_box;
+
+const FRAMES: usize = 960;
+const MOST_BYTES: usize = 9 + 26 * MOST_TICKS as usize;
+
+pub fn print() {
+    let file = busy();
+    println!("translation of 655 to 65,535 ticks");
+    for ticks in [MOST_TICKS / 100, MOST_TICKS / 10, MOST_TICKS] {
+        let mut room = vec![0; MOST_BYTES];
+        let mut other = room.clone();
+        print_medians(
+            "tick",
+            f64::from(ticks),
+            &mut [
+                (&format!("proved, {ticks} ticks"), &mut || {
+                    black_box(lampthistle::translate(black_box(&file), ticks, &mut room));
+                }),
+                (
+                    &format!("second implementation, {ticks} ticks"),
+                    &mut || {
+                        black_box(second::translate(black_box(&file), ticks, &mut other));
+                    },
+                ),
+            ],
+        );
+        assert!(room == other, "both write the same stream");
+    }
+    println!("play_stream against play, 10 to 1,000 ticks");
+    for ticks in [10, 100, 1_000] {
+        board_and_player(&file, ticks);
+    }
+}
+
+fn board_and_player(file: &[u8], ticks: u32) {
+    let mut room = vec![0; MOST_BYTES];
+    let bytes = lampthistle::translate(file, ticks, &mut room).count as usize;
+    let stream = &room[..bytes];
+    let mut board = vec![0; 2 * FRAMES * ticks as usize];
+    let mut player = board.clone();
+    let mut other = board.clone();
+    print_medians(
+        "frame",
+        f64::from(ticks) * FRAMES as f64,
+        &mut [
+            (&format!("proved, play_stream, {ticks} ticks"), &mut || {
+                black_box(lampthistle::play_stream(stream, file, &mut board));
+            }),
+            (&format!("proved, play, {ticks} ticks"), &mut || {
+                let mut state = lampthistle::fresh();
+                black_box(lampthistle::play(file, &mut state, ticks, &mut player));
+            }),
+            (&format!("second, play_stream, {ticks} ticks"), &mut || {
+                black_box(second::play_stream(stream, file, &mut other));
+            }),
+        ],
+    );
+    assert!(board == player && board == other, "all play the same");
+}

@@ -1,0 +1,181 @@
+//! The stored modules of crates/play_cases, and what its program prints for each: the name, then a line a tick of plain decimal numbers
+//! with a space between two,
+//!
+//! `POSITION ROW TICK TEMPO (SAMPLE PERIOD VOLUME INDEX FRACTION STOPPED)x4 CHECKSUM`
+//!
+//! with position, row and tick in the row before the tick, and tempo and the four voices as the tick leaves them in the state. The
+//! checksum goes over the tick's numbers in their order, from h = 0: h = (h * 31 + number mod 65,536) mod 65,521.
+use crate::cases::Case;
+use lampthistle::cell;
+use second::generate::draft::Draft;
+use second::generate::Random;
+use std::fmt::Write;
+
+/// Ticks that the program plays of each module, one a call.
+pub const TICKS: u32 = 48;
+
+/// A voice's numbers, from its sample on.
+const VOICE_CELLS: usize = cell::CHANNEL_CELLS - cell::VOICE_SAMPLE;
+
+pub fn play_cases() -> Vec<Case> {
+    vec![("effects", effects()), ("flow", flow()), ("edges", edges())]
+}
+
+/// Bytes of a sample that are unlike one another.
+fn noise(seed: u64, length: usize) -> Vec<u8> {
+    let mut random = Random::new(seed);
+    (0..length).map(|_| random.byte()).collect()
+}
+
+/// Three ticks a row at tempo 255, so that few ticks see many rows.
+fn fast(draft: &mut Draft) {
+    draft.put(0, 0, 3, 0, 0, 0xF03);
+    draft.put(0, 0, 2, 0, 0, 0xFFF);
+}
+
+/// Puts a column of cells into a channel of pattern 0, from row 0 on.
+fn column(draft: &mut Draft, channel: usize, cells: &Column) {
+    for (row, &(sample, period, effect)) in cells.iter().enumerate() {
+        draft.put(0, row, channel, sample, period, effect);
+    }
+}
+
+/// Cells of a channel from row 0 on: sample number, period, effect.
+type Column = [(u32, u32, u32)];
+
+const PERIOD_EFFECTS: &Column = &[
+    (1, 428, 0x047),
+    (0, 0, 0x102),
+    (0, 0, 0x2FF),
+    (0, 339, 0x30A),
+    (0, 0, 0x300),
+    (2, 214, 0x902),
+    (0, 0, 0x905),
+    (0, 0, 0xE92),
+    (1, 113, 0x0FF),
+    (0, 0, 0xE25),
+    (0, 0, 0xE1F),
+];
+
+const VOLUME_EFFECTS: &Column = &[
+    (2, 285, 0xC20),
+    (0, 0, 0xA35),
+    (0, 0, 0xA0F),
+    (0, 0, 0xEA7),
+    (0, 0, 0xEB2),
+    (0, 320, 0xEC2),
+    (1, 0, 0xEC0),
+    (0, 0, 0xCFF),
+    (0, 0, 0x7FF),
+];
+
+const SLIDES_TO_LIMITS: &Column = &[(0, 0, 0), (1, 856, 0x20F), (2, 120, 0x1FF), (0, 0, 0)];
+
+/// Every effect that works on a channel.
+fn effects() -> Vec<u8> {
+    let mut draft = Draft::empty();
+    draft.add_looped(1, 64, 20, 80, &noise(1, 240));
+    draft.add_sample(2, 48, &noise(2, 2_000));
+    column(&mut draft, 0, PERIOD_EFFECTS);
+    column(&mut draft, 1, VOLUME_EFFECTS);
+    column(&mut draft, 2, SLIDES_TO_LIMITS);
+    fast(&mut draft);
+    draft.bytes()
+}
+
+/// Loops, delays, breaks and jumps over three positions.
+fn flow() -> Vec<u8> {
+    let mut draft = Draft::empty();
+    draft.song_length = 3;
+    draft.table[..3].copy_from_slice(&[0, 1, 0]);
+    draft.patterns.push(draft.patterns[0]);
+    draft.add_looped(1, 50, 0, 30, &noise(3, 60));
+    column(
+        &mut draft,
+        0,
+        &[
+            (1, 404, 0xE60),
+            (0, 0, 0xE61),
+            (1, 360, 0xEE2),
+            (0, 0, 0xD3E),
+        ],
+    );
+    column(&mut draft, 1, &[(1, 202, 0), (0, 0, 0xA02), (0, 0, 0xEE1)]);
+    draft.put(1, 62, 2, 1, 538, 0xF02);
+    draft.put(1, 63, 1, 0, 0, 0xE61);
+    draft.put(1, 63, 3, 1, 480, 0xFC0);
+    draft.put(1, 1, 0, 0, 0, 0xD50);
+    draft.put(1, 1, 1, 0, 0, 0xB02);
+    fast(&mut draft);
+    draft.bytes()
+}
+
+/// Loudest bytes, shortest loops, ends inside a tick, starts of stopped voices and starts without a sample.
+fn edges() -> Vec<u8> {
+    let mut draft = Draft::empty();
+    draft.add_looped(1, 64, 2, 3, &[128; 12]);
+    draft.add_sample(2, 64, &[127; 40]);
+    draft.add_looped(3, 64, 0, 2, &[127, 127, 128, 128]);
+    draft.add_looped(31, 1, 100, 28, &noise(4, 512));
+    column(
+        &mut draft,
+        0,
+        &[
+            (1, 428, 0),
+            (2, 856, 0),
+            (0, 0, 0x900),
+            (0, 0, 0xE91),
+            (3, 113, 0),
+            (31, 0, 0xC40),
+            (0, 127, 0x901),
+            (0, 0, 0x900),
+        ],
+    );
+    column(
+        &mut draft,
+        3,
+        &[(0, 428, 0), (1, 428, 0), (0, 0, 0x101), (31, 214, 0x902)],
+    );
+    column(
+        &mut draft,
+        1,
+        &[(0, 0, 0xF03), (0, 300, 0x310), (2, 300, 0)],
+    );
+    draft.put(0, 0, 2, 0, 0, 0xFFF);
+    draft.bytes()
+}
+
+/// What the program prints, by the second implementation.
+pub fn play_lines() -> String {
+    let mut text = String::new();
+    for (name, file) in play_cases() {
+        text += name;
+        text.push('\n');
+        let mut cells = second::fresh();
+        for _ in 0..TICKS {
+            tick_line(&mut text, &file, &mut cells);
+        }
+    }
+    text
+}
+
+fn tick_line(text: &mut String, file: &[u8], cells: &mut [u32; second::STATE_CELLS]) {
+    let trace = second::trace_tick(file, cells).expect("a stored module is accepted");
+    let mut numbers = vec![trace.position, trace.row, trace.tick, cells[cell::TEMPO]];
+    for channel in 0..4 {
+        let voice = cell::channel(channel) + cell::VOICE_SAMPLE;
+        numbers.extend_from_slice(&cells[voice..voice + VOICE_CELLS]);
+    }
+    numbers.push(checksum(&trace.frames));
+    for (k, number) in numbers.iter().enumerate() {
+        let space = if k == 0 { "" } else { " " };
+        write!(text, "{space}{number}").expect("a string takes all");
+    }
+    text.push('\n');
+}
+
+fn checksum(numbers: &[i16]) -> u32 {
+    numbers
+        .iter()
+        .fold(0, |h, &number| (h * 31 + u32::from(number as u16)) % 65_521)
+}
