@@ -17,6 +17,7 @@ use Rattle.reader.specs.File.{patternsOf, sampleAt}
 use Rattle.reader.specs.Judge.{judged, tagged, badLength, badEntry, badVolume, badLoop, badNumber, badPeriod, badAt}
 use Rattle.reader.specs.Cells.{cellFrom, cellAt}
 use Rattle.reader.specs.Samples.{extentOf}
+use Rattle.reader.specs.Answers.{refused, accepted}
 use Rattle.effects.specs.declared.Channel.{Channel}
 use Rattle.effects.specs.Slides.{lowered, towards}
 use Rattle.effects.specs.Sounded.{periods, above, semitones, arpeggio, transposed, soundedPeriod}
@@ -28,14 +29,12 @@ use Rattle.sequencer.specs.Songs.{silence, freshSong, nextOf, songBy, songWork,
 use Rattle.sequencer.specs.Legal.{legalPlace, legalRepeat, legalTime, legalAt, legalSong}
 use Rattle.sequencer.specs.Runs.{songAfter, freshSounding}
 use Rattle.voice.specs.declared.Voice.{Voice}
-use Rattle.voice.specs.Voice.{fresh, arriveAt, silentOf, signedOf, readAt, givesOf, growthOf, carried, stepOf, toldOf}
+use Rattle.voice.specs.Voice.{fresh, samplesOf, arriveAt, silentOf, signedOf, readAt, givesOf, growthOf, carried, stepOf, toldOf}
 use Rattle.voice.specs.Frames.{stepsOf, sideOf, sumOf, framesFrom, mixed, framesAt, frames}
 use Rattle.voice.specs.Legal.{legalVoice, legalPlace as legalVoicePlace}
 use Rattle.player.specs.declared.State.{State}
 use Rattle.player.specs.declared.Reply.{Reply}
 use Rattle.player.specs.State.{freshState, legalVoiceAt, legalState}
-use Rattle.reader.specs.Answers.{refused, accepted}
-use Rattle.voice.specs.Voice.{samplesOf}
 use Rattle.player.specs.Play.{reply}
 use Rattle.player.specs.Touch.{ageOf, touchedAt, withSong, touchLines, touchOf}
 use Rattle.player.specs.Theorems.{touch-judged}

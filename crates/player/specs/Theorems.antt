@@ -19,20 +19,19 @@ use Rattle.ticks.specs.Play.{over, afterAll, rendered, playOut, fit-le, fit-fit
 use Rattle.reader.specs.File.{songLength, channels}
 use Rattle.reader.specs.Judge.{judged}
 use Rattle.reader.specs.Accept.{Bytes}
+use Rattle.reader.specs.Answers.{refused, accepted}
 use Rattle.reader.specs.Samples.{none as noExtent, extentsOf}
 use Rattle.sequencer.specs.declared.Song.{Song}
 use Rattle.sequencer.specs.Songs.{tickOf}
 use Rattle.sequencer.specs.Legal.{LegalSong}
 use Rattle.sequencer.specs.Runs.{ticksFrom, songAfter, soundingAfter, length-ticks, ticks-add, song-add}
 use Rattle.voice.specs.declared.Voice.{Voice}
-use Rattle.voice.specs.Voice.{half16}
+use Rattle.voice.specs.Voice.{samplesOf, half16}
 use Rattle.voice.specs.Frames.{size, frames, after, sized}
 use Rattle.voice.specs.Range.{frames-fit}
 use Rattle.player.specs.declared.State.{State}
 use Rattle.player.specs.declared.Reply.{Reply}
 use Rattle.player.specs.State.{legalState}
-use Rattle.reader.specs.Answers.{refused, accepted}
-use Rattle.voice.specs.Voice.{samplesOf}
 use Rattle.player.specs.Play.{Outcome, reply, outcome, soundings, ticksOf, countOf, stateAfter, played, playOf}
 use Rattle.player.specs.Touch.{pageChanged, withSong, changePage, touchedAt, touchLines, touchOf}
 use Rattle.player.specs.Kept.{LegalState, state-has, state-by, state-run, tick-is-legal, after-soundings, tick-kept}
