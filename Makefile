@@ -3,7 +3,7 @@
 # make judge FILE=song.mod  judges a file
 # make test                 everything: the proofs, the programs, the host's tests (.ci/run)
 # make host-test            the host's tests alone: c-test, robust and cargo's
-# make bench                the benchmarks; make bench-players: other players, where they can be installed
+# make bench                the benchmarks, with other players where they are installed; make bench-players installs them first
 # make compare COUNT=1000000 [SEED=0]   the proved library against the second implementation, on so many generated inputs
 # make install [PREFIX=/usr/local] [DESTDIR=]   command, library and header
 CARGO := cargo
@@ -39,11 +39,12 @@ demo: all
 	$(PLAY) compare out/demo.mod --ticks $(DEMO_TICKS)
 	cmp out/demo.wav out/demo-board.wav
 
-bench: lib
-	$(CARGO) run --release --locked --quiet -p trials --bin bench
+bench: all
+	$(BUILT)/bench
+	scripts/players out
 
 bench-players: all
-	scripts/players out
+	scripts/players --install out
 
 compare: lib
 	$(CARGO) run --release --locked --quiet -p trials --bin compare -- $(COUNT) $(SEED)
