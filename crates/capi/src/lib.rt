@@ -1,6 +1,8 @@
 // The C library: each public call on plain numbers and slices. An answer is number, place and count; number 0 is accepted. A state is 56
 // cells, and any numbers may stand in them.
 ghost use mathlib.Core.Path.{_≡_};
+ghost use mathlib.Core.Bool.{not};
+ghost use lib.Dec.{eqb};
 ghost use Rattle.cells.specs.Cells.{cellsOf, stateOf};
 ghost use Rattle.player.specs.State.{freshState};
 ghost use Rattle.player.specs.Play.{playOf};
@@ -8,7 +10,6 @@ ghost use Rattle.player.specs.Touch.{changePage, touchOf};
 ghost use Rattle.translator.specs.Translate.{translateOf};
 ghost use Rattle.board.specs.Board.{playStream};
 ghost use Rattle.capi.specs.Answers.{judgeAnswer, answerCells, cellsAfter};
-use player::Reply;
 use reader::Answer;
 
 // An answer's three cells.
@@ -18,15 +19,10 @@ fn answer_cells(a: Answer) -> [u64; 3]
     [a.number as u64, a.place as u64, a.count as u64]
 }
 
-// The state's cells after a call: those of its state, and on a refusal as they were.
-fn cells_after(cells: [u32; 56], reply: Reply) -> [u32; 56]
-    ensures { λ r. ⌜ r ≡ cellsAfter reply cells ⌝ }
+fn is_refused(a: Answer) -> bool
+    ensures { λ r. ⌜ r ≡ not (eqb (a .number) 0) ⌝ }
 {
-    if reply.answer.number == 0 {
-        let state = reply.state;
-        return cells::cells_of(state);
-    }
-    cells
+    a.number != 0
 }
 
 // Judges a file.
@@ -60,11 +56,14 @@ pub extern "C" fn lampthistle_play(
     ensures stated { λ _. ⌜ now (state .exit) ≡ cellsAfter (playOf (now (file .entry)) (stateOf (now (state .entry))) ticks (now (out .entry)) .reply) (now (state .entry)) ⌝ }
     ensures sounded { λ _. ⌜ now (out .exit) ≡ playOf (now (file .entry)) (stateOf (now (state .entry))) ticks (now (out .entry)) .out ⌝ }
 {
-    let cells = *state;
     let before = cells::state_of(state);
     let reply = player::play(file, before, ticks, out);
-    *state = cells_after(cells, reply);
     *answer = answer_cells(reply.answer);
+    if is_refused(reply.answer) {
+        return;
+    }
+    let after = reply.state;
+    *state = cells::cells_of(after);
 }
 
 // A touch: made on a page, at a clock, for a position of the song.
@@ -80,11 +79,14 @@ pub extern "C" fn lampthistle_touch(
     ensures answered { λ _. ⌜ now (answer .exit) ≡ answerCells (touchOf (now (file .entry)) (stateOf (now (state .entry))) page made position .answer) ⌝ }
     ensures stated { λ _. ⌜ now (state .exit) ≡ cellsAfter (touchOf (now (file .entry)) (stateOf (now (state .entry))) page made position) (now (state .entry)) ⌝ }
 {
-    let cells = *state;
     let before = cells::state_of(state);
     let reply = player::touch(file, before, page, made, position);
-    *state = cells_after(cells, reply);
     *answer = answer_cells(reply.answer);
+    if is_refused(reply.answer) {
+        return;
+    }
+    let after = reply.state;
+    *state = cells::cells_of(after);
 }
 
 // A page change.
@@ -93,11 +95,14 @@ pub extern "C" fn lampthistle_change_page(file: &[u8], state: &mut [u32; 56], an
     ensures answered { λ _. ⌜ now (answer .exit) ≡ answerCells (changePage (now (file .entry)) (stateOf (now (state .entry))) .answer) ⌝ }
     ensures stated { λ _. ⌜ now (state .exit) ≡ cellsAfter (changePage (now (file .entry)) (stateOf (now (state .entry)))) (now (state .entry)) ⌝ }
 {
-    let cells = *state;
     let before = cells::state_of(state);
     let reply = player::change_page(file, before);
-    *state = cells_after(cells, reply);
     *answer = answer_cells(reply.answer);
+    if is_refused(reply.answer) {
+        return;
+    }
+    let after = reply.state;
+    *state = cells::cells_of(after);
 }
 
 // Translates at most 65,535 ticks of a module, from fresh, to a stream in the room.
