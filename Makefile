@@ -12,6 +12,8 @@ CXX ?= c++
 COUNT ?= 1000000
 SEED ?= 0
 PREFIX ?= /usr/local
+# Recipes take the name from the environment, where spaces and quotes do no harm.
+export FILE
 
 C_WARNINGS := -Wall -Wextra -Werror -pedantic
 BUILT := host/target/release
@@ -28,7 +30,7 @@ all: lib
 lib: out/liblampthistle.a out/lampthistle.h
 
 judge: lib
-	@$(CARGO) run --release --locked --quiet -p lampthistle -- judge $(FILE)
+	@$(CARGO) run --release --locked --quiet -p lampthistle -- judge -- "$${FILE:?usage: make judge FILE=song.mod}"
 
 demo: all
 	$(BUILT)/demo out/demo.mod
@@ -72,6 +74,9 @@ c-test: demo
 	out/board out/demo.stream out/demo.mod out/board.raw
 	$(PLAY) play out/demo.mod --ticks $(DEMO_TICKS) --out out/demo.raw
 	cmp out/board.raw out/demo.raw
+	$(MAKE) --question lib
+	cp out/demo.mod 'out/the demo.mod'
+	$(MAKE) judge FILE='out/the demo.mod'
 
 # The calls under a memory checker, on damaged inputs.
 robust: all
@@ -84,11 +89,11 @@ install: all
 	install -D -m 644 out/liblampthistle.a $(DESTDIR)$(PREFIX)/lib/liblampthistle.a
 	install -D -m 644 out/lampthistle.h $(DESTDIR)$(PREFIX)/include/lampthistle.h
 
-# rt says itself what is to be proved again, so this is asked every time.
-out/liblampthistle.a: FORCE
+# The folders stand among the sources, so that a file taken away counts as a change.
+out/liblampthistle.a: crates.txt $(shell find crates)
 	@mkdir -p out
 	rt staticlib capi
-	@cmp -s target/staticlib/libcapi.a $@ || cp target/staticlib/libcapi.a $@
+	cp target/staticlib/libcapi.a $@
 
 out/lampthistle.h: include/lampthistle.h
 	@mkdir -p out
@@ -97,4 +102,4 @@ out/lampthistle.h: include/lampthistle.h
 clean:
 	rm -rf out target host/target
 
-.PHONY: all lib judge demo bench bench-players compare test host-test c-test robust install clean FORCE
+.PHONY: all lib judge demo bench bench-players compare test host-test c-test robust install clean
