@@ -4,6 +4,7 @@ use std::fmt;
 /// What a call answers. Number 0 is accepted; another number is a refusal, with its place. The count is what the call counts: ticks
 /// played or bytes written, 0 for the others and for every refusal.
 #[derive(Clone, Copy, Debug, PartialEq, Eq)]
+#[must_use]
 pub struct Answer {
     pub number: u64,
     pub place: u64,

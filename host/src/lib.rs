@@ -8,18 +8,13 @@ mod answer;
 pub mod cell;
 mod play;
 mod stream;
+mod sys;
 
 pub use answer::Answer;
 pub use play::{
     change_page, fresh, play, tick_frames, touch, State, RATE, STATE_CELLS, TICK_NUMBERS,
 };
 pub use stream::{play_stream, translate, MOST_TICKS};
-
-mod sys {
-    extern "C" {
-        pub fn lampthistle_judge(file: *const u8, file_len: usize, answer: *mut [u64; 3]);
-    }
-}
 
 /// Whether the bytes are a module that can be played. The count is 0.
 pub fn judge(file: &[u8]) -> Answer {

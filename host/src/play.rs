@@ -1,37 +1,5 @@
 //! Playing a module: states, ticks, touches and page changes.
-use crate::{cell, Answer};
-
-mod sys {
-    use super::STATE_CELLS;
-
-    extern "C" {
-        pub fn lampthistle_fresh(state: *mut [u32; STATE_CELLS]);
-        pub fn lampthistle_play(
-            file: *const u8,
-            file_len: usize,
-            state: *mut [u32; STATE_CELLS],
-            ticks: u32,
-            out: *mut i16,
-            out_len: usize,
-            answer: *mut [u64; 3],
-        );
-        pub fn lampthistle_touch(
-            file: *const u8,
-            file_len: usize,
-            state: *mut [u32; STATE_CELLS],
-            page: u32,
-            made: u32,
-            position: u32,
-            answer: *mut [u64; 3],
-        );
-        pub fn lampthistle_change_page(
-            file: *const u8,
-            file_len: usize,
-            state: *mut [u32; STATE_CELLS],
-            answer: *mut [u64; 3],
-        );
-    }
-}
+use crate::{cell, sys, Answer};
 
 /// Frames a second; a frame is two numbers, left first.
 pub const RATE: u32 = 48_000;

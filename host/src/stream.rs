@@ -1,27 +1,5 @@
 //! Tick streams: translating a module, and playing a stream as the sound board does.
-use crate::Answer;
-
-mod sys {
-    extern "C" {
-        pub fn lampthistle_translate(
-            file: *const u8,
-            file_len: usize,
-            ticks: u32,
-            room: *mut u8,
-            room_len: usize,
-            answer: *mut [u64; 3],
-        );
-        pub fn lampthistle_play_stream(
-            stream: *const u8,
-            stream_len: usize,
-            file: *const u8,
-            file_len: usize,
-            out: *mut i16,
-            out_len: usize,
-            answer: *mut [u64; 3],
-        );
-    }
-}
+use crate::{sys, Answer};
 
 /// The most ticks that one translation takes.
 pub const MOST_TICKS: u32 = 65_535;

@@ -1,0 +1,51 @@
+//! The library's calls as `include/lampthistle.h` declares them.
+use crate::STATE_CELLS;
+
+type State = [u32; STATE_CELLS];
+type Answer = [u64; 3];
+
+extern "C" {
+    pub fn lampthistle_judge(file: *const u8, file_len: usize, answer: *mut Answer);
+    pub fn lampthistle_fresh(state: *mut State);
+    pub fn lampthistle_play(
+        file: *const u8,
+        file_len: usize,
+        state: *mut State,
+        ticks: u32,
+        out: *mut i16,
+        out_len: usize,
+        answer: *mut Answer,
+    );
+    pub fn lampthistle_touch(
+        file: *const u8,
+        file_len: usize,
+        state: *mut State,
+        page: u32,
+        made: u32,
+        position: u32,
+        answer: *mut Answer,
+    );
+    pub fn lampthistle_change_page(
+        file: *const u8,
+        file_len: usize,
+        state: *mut State,
+        answer: *mut Answer,
+    );
+    pub fn lampthistle_translate(
+        file: *const u8,
+        file_len: usize,
+        ticks: u32,
+        room: *mut u8,
+        room_len: usize,
+        answer: *mut Answer,
+    );
+    pub fn lampthistle_play_stream(
+        stream: *const u8,
+        stream_len: usize,
+        file: *const u8,
+        file_len: usize,
+        out: *mut i16,
+        out_len: usize,
+        answer: *mut Answer,
+    );
+}
