@@ -9,5 +9,6 @@ pub mod lent;
 pub mod play_cases;
 pub mod playing;
 pub mod runs;
+pub mod say;
 pub mod streaming;
 pub mod timing;

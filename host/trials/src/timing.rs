@@ -1,4 +1,5 @@
 //! Medians of 101 runs.
+use crate::say::say;
 use std::time::Instant;
 
 pub const RUNS: usize = 101;
@@ -38,10 +39,10 @@ fn repeats_of(work: &mut dyn FnMut()) -> u32 {
 pub fn print_medians(unit: &str, units: f64, works: &mut [(&str, &mut dyn FnMut())]) {
     let took = medians(works);
     for ((name, _), ns) in works.iter().zip(took) {
-        println!(
+        say(&format!(
             "  {name:<34} {:>12.3} us a call {:>10.3} ns a {unit}",
             ns / 1e3,
             ns / units
-        );
+        ));
     }
 }

@@ -1,5 +1,6 @@
 //! Judging: ns a cell, beside C scans (c/scan.c).
 use super::modules::large;
+use crate::say::say;
 use crate::timing::print_medians;
 use std::hint::black_box;
 
@@ -10,10 +11,10 @@ extern "C" {
 
 pub fn print() {
     let file = large();
-    println!(
+    say(&format!(
         "judging 64 patterns, 16,384 cells (C: {})",
         env!("C_COMPILER")
-    );
+    ));
     // SAFETY: both read `len` bytes from the pointer.
     let scan =
         |f: unsafe extern "C" fn(*const u8, usize) -> u32| unsafe { f(file.as_ptr(), file.len()) };
@@ -22,7 +23,7 @@ pub fn print() {
         16_384.0,
         &mut [
             ("proved", &mut || {
-                black_box(lampthistle::judge(black_box(&file)));
+                let _ = black_box(lampthistle::judge(black_box(&file)));
             }),
             ("C, branch-free scan", &mut || {
                 black_box(scan(scan_branch_free));

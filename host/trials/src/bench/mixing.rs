@@ -1,5 +1,6 @@
 //! Mixing: ns a frame of one tick at tempo 32 with four voices, beside a C loop (c/mix.c).
 use super::modules::{held, LOOP_LENGTH, LOOP_START, SAMPLE_BYTES};
+use crate::say::say;
 use crate::timing::print_medians;
 use lampthistle::{cell, State};
 use std::hint::black_box;
@@ -64,7 +65,7 @@ pub fn print() {
     let voices = plain_voices(&file);
     let mut proved_tick = || {
         let mut state = state;
-        black_box(lampthistle::play(black_box(&file), &mut state, 1, &mut out));
+        let _ = black_box(lampthistle::play(black_box(&file), &mut state, 1, &mut out));
     };
     let mut second_tick = || {
         let mut cells = state.0;
@@ -76,7 +77,7 @@ pub fn print() {
         unsafe { mix_plain(voices.as_mut_ptr(), plain.as_mut_ptr(), FRAMES) };
         black_box(&voices);
     };
-    println!("mixing 3,750 frames, one tick at tempo 32, four looped voices");
+    say("mixing 3,750 frames, one tick at tempo 32, four looped voices");
     print_medians(
         "frame",
         FRAMES as f64,

@@ -1,5 +1,6 @@
 //! Translation, ns a tick; and the board against the player on the same module, ns a frame.
 use super::modules::busy;
+use crate::say::say;
 use crate::timing::print_medians;
 use lampthistle::MOST_TICKS;
 use std::hint::black_box;
@@ -9,7 +10,7 @@ const MOST_BYTES: usize = 9 + 26 * MOST_TICKS as usize;
 
 pub fn print() {
     let file = busy();
-    println!("translation of 655 to 65,535 ticks");
+    say("translation of 655 to 65,535 ticks");
     for ticks in [MOST_TICKS / 100, MOST_TICKS / 10, MOST_TICKS] {
         let mut room = vec![0; MOST_BYTES];
         let mut other = room.clone();
@@ -18,7 +19,7 @@ pub fn print() {
             f64::from(ticks),
             &mut [
                 (&format!("proved, {ticks} ticks"), &mut || {
-                    black_box(lampthistle::translate(black_box(&file), ticks, &mut room));
+                    let _ = black_box(lampthistle::translate(black_box(&file), ticks, &mut room));
                 }),
                 (
                     &format!("second implementation, {ticks} ticks"),
@@ -30,7 +31,7 @@ pub fn print() {
         );
         assert!(room == other, "both write the same stream");
     }
-    println!("play_stream against play, 10 to 1,000 ticks");
+    say("play_stream against play, 10 to 1,000 ticks");
     for ticks in [10, 100, 1_000] {
         board_and_player(&file, ticks);
     }
@@ -48,11 +49,11 @@ fn board_and_player(file: &[u8], ticks: u32) {
         f64::from(ticks) * FRAMES as f64,
         &mut [
             (&format!("proved, play_stream, {ticks} ticks"), &mut || {
-                black_box(lampthistle::play_stream(stream, file, &mut board));
+                let _ = black_box(lampthistle::play_stream(stream, file, &mut board));
             }),
             (&format!("proved, play, {ticks} ticks"), &mut || {
                 let mut state = lampthistle::fresh();
-                black_box(lampthistle::play(file, &mut state, ticks, &mut player));
+                let _ = black_box(lampthistle::play(file, &mut state, ticks, &mut player));
             }),
             (&format!("second, play_stream, {ticks} ticks"), &mut || {
                 black_box(second::play_stream(stream, file, &mut other));

@@ -1,5 +1,6 @@
 //! One tick a call, as a panel plays: the share that judging takes of it; and how play grows with the ticks of a call.
 use super::modules::{busy, large};
+use crate::say::say;
 use crate::timing::{medians, print_medians};
 use std::hint::black_box;
 
@@ -16,13 +17,13 @@ fn one_tick_a_call() {
     let mut other = out.clone();
     let mut state = lampthistle::fresh();
     let mut cells = second::fresh();
-    println!("one tick a call, 960 frames, on a module of 64 patterns");
+    say("one tick a call, 960 frames, on a module of 64 patterns");
     let works: &mut [(&str, &mut dyn FnMut())] = &mut [
         ("proved, play of one tick", &mut || {
-            black_box(lampthistle::play(black_box(&file), &mut state, 1, &mut out));
+            let _ = black_box(lampthistle::play(black_box(&file), &mut state, 1, &mut out));
         }),
         ("proved, judge alone", &mut || {
-            black_box(lampthistle::judge(black_box(&file)));
+            let _ = black_box(lampthistle::judge(black_box(&file)));
         }),
         ("second implementation, play", &mut || {
             black_box(second::play(black_box(&file), &mut cells, 1, &mut other));
@@ -30,17 +31,17 @@ fn one_tick_a_call() {
     ];
     let took = medians(works);
     for ((name, _), ns) in works.iter().zip(&took) {
-        println!("  {name:<34} {:>12.3} us a call", ns / 1e3);
+        say(&format!("  {name:<34} {:>12.3} us a call", ns / 1e3));
     }
-    println!(
+    say(&format!(
         "  judging takes {:.1} % of a call",
         100.0 * took[1] / took[0]
-    );
+    ));
 }
 
 fn growth() {
     let file = busy();
-    println!("play from fresh, 10 to 1,000 ticks a call, four voices");
+    say("play from fresh, 10 to 1,000 ticks a call, four voices");
     for ticks in [10, 100, 1_000] {
         let mut out = vec![0; 2 * FRAMES * ticks as usize];
         let mut other = out.clone();
@@ -50,7 +51,7 @@ fn growth() {
             &mut [
                 (&format!("proved, {ticks} ticks"), &mut || {
                     let mut state = lampthistle::fresh();
-                    black_box(lampthistle::play(&file, &mut state, ticks, &mut out));
+                    let _ = black_box(lampthistle::play(&file, &mut state, ticks, &mut out));
                 }),
                 (
                     &format!("second implementation, {ticks} ticks"),

@@ -1,8 +1,9 @@
-//! compare COUNT [SEED]: the proved library against the second implementation, and the player against the board, on generated inputs
+//! `compare COUNT [SEED]`: the proved library against the second implementation, and the player against the board, on generated inputs
 //! from a seed on: COUNT files to judge, and COUNT / 100 modules for each of the others.
 use std::process::ExitCode;
 use std::time::Instant;
 use trials::runs::{shown, Tally};
+use trials::say::say;
 use trials::{agreement, judging, playing, streaming};
 
 /// A trial's name, its run over so many seeds from one on, and by how much fewer of them it takes.
@@ -33,10 +34,12 @@ fn main() -> ExitCode {
             Ok(tally) => {
                 let took = began.elapsed().as_secs_f64();
                 let numbers = shown(&tally);
-                println!("{name}: {seeds} seeds, equal, {took:.1} s; answers by number: {numbers}");
+                say(&format!(
+                    "{name}: {seeds} seeds, equal, {took:.1} s; answers by number: {numbers}"
+                ));
             }
             Err(what) => {
-                println!("{name}: DIFFERENT: {what}");
+                say(&format!("{name}: DIFFERENT: {what}"));
                 status = ExitCode::FAILURE;
             }
         }
