@@ -1,11 +1,13 @@
 //! compare FILE: the player and the sound board, number by number.
-use super::judge::{line, plain};
+use super::input::{self, Source};
 use super::output::{counted, say};
-use super::play::Ticks;
 use super::progress::Progress;
+use super::report::plain;
+use super::song::Song;
+use super::stop::Stop;
 use super::stream::{board, translated};
 use super::words::Words;
-use super::{input, Command, Stop};
+use super::Command;
 use lampthistle::{Answer, TICK_NUMBERS};
 
 pub const COMMAND: Command = Command {
@@ -32,15 +34,12 @@ const TICKS: u32 = 1_000;
 fn run(words: &Words) -> Result<bool, Stop> {
     let ticks = words.number("--ticks")?.unwrap_or(TICKS);
     let [source] = input::read_all(words.files(["FILE"])?)?;
-    let refused = |refusal| say(&line(words, &source.name, &refusal)).map(|()| false);
-    let stream = match translated(&source.bytes, ticks)? {
-        Ok(stream) => stream,
-        Err(refusal) => return refused(refusal),
+    let stream = Source {
+        name: source.name.clone(),
+        bytes: translated(&source, ticks)?,
+        identity: None,
     };
-    let (answer, numbers) = match board(&stream, &source.bytes)? {
-        Ok(played) => played,
-        Err(refusal) => return refused(refusal),
-    };
+    let (answer, numbers) = board(&stream, &source)?;
     let name = &source.name;
     let text = match difference(&source.bytes, ticks, &answer, &numbers) {
         Some(what) => {
@@ -59,7 +58,7 @@ fn run(words: &Words) -> Result<bool, Stop> {
 
 /// Plays the module against the board's numbers; the first difference, if there is one.
 fn difference(file: &[u8], ticks: u32, answer: &Answer, board: &[i16]) -> Option<String> {
-    let mut song = Ticks::new(file);
+    let mut song = Song::new(file);
     let mut progress = Progress::new();
     let mut rest = board;
     for tick in 0..ticks {

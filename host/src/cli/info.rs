@@ -1,8 +1,9 @@
 //! info FILE: what an accepted module holds, read by offset.
-use super::judge::{line, plain};
 use super::output::say;
+use super::report::plain;
+use super::stop::Stop;
 use super::words::Words;
-use super::{input, Command, Stop};
+use super::{input, Command};
 
 pub const COMMAND: Command = Command {
     name: "info",
@@ -40,10 +41,7 @@ struct Header<'a> {
 
 fn run(words: &Words) -> Result<bool, Stop> {
     let [source] = input::read_all(words.files(["FILE"])?)?;
-    let answer = lampthistle::judge(&source.bytes);
-    if !answer.is_accepted() {
-        return say(&line(words, &source.name, &answer)).map(|()| false);
-    }
+    let answer = source.judge()?;
     let file = &source.bytes;
     let patterns = file[TABLE]
         .iter()

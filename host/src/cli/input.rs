@@ -1,5 +1,6 @@
 //! Reading the files that are named.
-use super::Stop;
+use super::stop::{Refusal, Stop};
+use lampthistle::Answer;
 use std::ffi::OsStr;
 use std::fs::File;
 use std::io::{self, Read};
@@ -16,6 +17,24 @@ pub struct Source {
     pub name: String,
     pub bytes: Vec<u8>,
     pub identity: Option<Identity>,
+}
+
+impl Source {
+    /// The library's answer for a module that it accepts.
+    pub fn judge(&self) -> Result<Answer, Stop> {
+        let answer = lampthistle::judge(&self.bytes);
+        if answer.is_accepted() {
+            Ok(answer)
+        } else {
+            Err(self.refused(answer))
+        }
+    }
+
+    /// This file's refusal.
+    pub fn refused(&self, answer: Answer) -> Stop {
+        let name = self.name.clone();
+        Stop::Refused(Refusal { name, answer })
+    }
 }
 
 /// A name for a message, without control characters.

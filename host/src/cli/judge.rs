@@ -1,8 +1,9 @@
 //! judge FILE..: a line a file.
 use super::output::say;
+use super::report::line;
+use super::stop::Stop;
 use super::words::Words;
-use super::{input, Command, Stop};
-use lampthistle::Answer;
+use super::{input, Command};
 
 pub const COMMAND: Command = Command {
     name: "judge",
@@ -49,17 +50,4 @@ fn run(words: &Words) -> Result<bool, Stop> {
     } else {
         Err(Stop::Told)
     }
-}
-
-/// An answer as a line: with the name and the meaning, or bare.
-pub fn line(words: &Words, name: &str, answer: &Answer) -> String {
-    if words.plain {
-        plain(answer)
-    } else {
-        format!("{name}: {answer}\n")
-    }
-}
-
-pub fn plain(answer: &Answer) -> String {
-    format!("{} {} {}\n", answer.number, answer.place, answer.count)
 }

@@ -8,24 +8,17 @@ mod play;
 mod progress;
 mod records;
 mod replay;
+mod report;
+mod song;
+mod stop;
 mod stream;
 mod trace;
 mod words;
 
 use std::ffi::OsString;
-use std::io::{self, Write};
 use std::process::ExitCode;
+use stop::Stop;
 use words::Words;
-
-/// Why the program ends with 2.
-enum Stop {
-    Usage(String),
-    /// A name, and what the system says of it.
-    Io(String, io::Error),
-    Cannot(String),
-    /// The reason is on standard error already.
-    Told,
-}
 
 /// One command: its options that take a value, its help, and its work, which says whether all was accepted.
 struct Command {
@@ -75,7 +68,7 @@ pub fn run(words: &[OsString]) -> ExitCode {
         Ok(false) => ExitCode::from(1),
         Err(stop) => {
             stop.tell();
-            ExitCode::from(2)
+            ExitCode::from(stop.status())
         }
     }
 }
@@ -102,9 +95,11 @@ fn dispatch(words: &[OsString]) -> Result<bool, Stop> {
 fn run_command(command: &Command, words: &[OsString]) -> Result<bool, Stop> {
     let asked = Words::parse(words, command.options).and_then(|words| {
         if words.help {
-            output::say(command.help).map(|()| true)
-        } else {
-            (command.run)(&words)
+            return output::say(command.help).map(|()| true);
+        }
+        match (command.run)(&words) {
+            Err(Stop::Refused(refusal)) => report::refused(&words, &refusal).map(|()| false),
+            done => done,
         }
     });
     asked.map_err(|stop| match stop {
@@ -114,18 +109,4 @@ fn run_command(command: &Command, words: &[OsString]) -> Result<bool, Stop> {
         )),
         other => other,
     })
-}
-
-impl Stop {
-    /// Says on standard error why; a closed pipe is the reader's choice, and nothing to report.
-    fn tell(&self) {
-        let text = match self {
-            Stop::Io(_, e) if e.kind() == io::ErrorKind::BrokenPipe => return,
-            Stop::Told => return,
-            Stop::Usage(what) | Stop::Cannot(what) => what.clone(),
-            Stop::Io(name, e) => format!("{name}: {e}"),
-        };
-        // Nothing more can be done if standard error is closed, too.
-        let _ = writeln!(io::stderr(), "lampthistle: {text}");
-    }
 }

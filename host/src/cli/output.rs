@@ -1,6 +1,7 @@
 //! Writing: lines of text, sound files and streams.
 use super::input::{identity, shown, Source};
-use super::Stop;
+use super::stop::Stop;
+use super::words::Words;
 use lampthistle::RATE;
 use std::ffi::OsStr;
 use std::fs::File;
@@ -20,9 +21,9 @@ pub fn say(text: &str) -> Result<(), Stop> {
         .map_err(|e| Stop::Io("standard output".into(), e))
 }
 
-/// Text about work whose result goes to `out`: to standard error where the result itself goes to standard output.
-pub fn say_beside(out: &OsStr, text: &str) -> Result<(), Stop> {
-    if out != "-" {
+/// Text about a command's work: to standard error where the result itself goes to standard output.
+pub fn tell(words: &Words, text: &str) -> Result<(), Stop> {
+    if words.value("--out").is_none_or(|out| out != "-") {
         return say(text);
     }
     io::stderr()

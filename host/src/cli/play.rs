@@ -1,11 +1,13 @@
 //! play FILE: renders a module tick by tick, so that memory does not grow with the length.
 use super::input::{self, Source};
-use super::judge::{line, plain};
-use super::output::{say, say_beside, Sound};
+use super::output::{tell, Sound};
 use super::progress::Progress;
+use super::report::plain;
+use super::song::Song;
+use super::stop::Stop;
 use super::words::Words;
-use super::{output, Command, Stop};
-use lampthistle::{Answer, State, RATE, TICK_NUMBERS};
+use super::{output, Command};
+use lampthistle::{Answer, RATE, TICK_NUMBERS};
 
 pub const COMMAND: Command = Command {
     name: "play",
@@ -36,48 +38,12 @@ enum Length {
     Frames(u64),
 }
 
-/// A module that is played one tick a call.
-pub struct Ticks<'a> {
-    file: &'a [u8],
-    pub state: State,
-    numbers: Vec<i16>,
-}
-
-impl<'a> Ticks<'a> {
-    pub fn new(file: &'a [u8]) -> Ticks<'a> {
-        Ticks {
-            file,
-            state: lampthistle::fresh(),
-            numbers: vec![0; TICK_NUMBERS],
-        }
-    }
-
-    /// What a call for no tick answers: the module's and the state's judging.
-    pub fn judge(&mut self) -> Answer {
-        lampthistle::play(self.file, &mut self.state, 0, &mut [])
-    }
-
-    /// The next tick's numbers, if they are at most `most`; else none. Or the refusal.
-    pub fn next(&mut self, most: usize) -> Result<Option<&[i16]>, Answer> {
-        let room = &mut self.numbers[..most.min(TICK_NUMBERS)];
-        let answer = lampthistle::play(self.file, &mut self.state, 1, room);
-        if !answer.is_accepted() {
-            return Err(answer);
-        }
-        let played = 2 * self.state.last_tick_frames();
-        Ok((answer.count == 1).then(|| &self.numbers[..played.min(TICK_NUMBERS)]))
-    }
-}
-
 fn run(words: &Words) -> Result<bool, Stop> {
     let length = asked_length(words)?;
     let out = words.needed("--out")?;
     output::format(out)?;
     let [source] = input::read_all(words.files(["FILE"])?)?;
-    let judged = lampthistle::judge(&source.bytes);
-    if !judged.is_accepted() {
-        return say(&line(words, &source.name, &judged)).map(|()| false);
-    }
+    let judged = source.judge()?;
     let mut sound = Sound::create(out, &[&source])?;
     let (ticks, frames) = render(&source, length, &mut sound)?;
     sound.finish()?;
@@ -89,7 +55,7 @@ fn run(words: &Words) -> Result<bool, Stop> {
     } else {
         output::played(&source.name, ticks, frames)
     };
-    say_beside(out, &text).map(|()| true)
+    tell(words, &text).map(|()| true)
 }
 
 fn asked_length(words: &Words) -> Result<Length, Stop> {
@@ -117,7 +83,7 @@ fn asked_length(words: &Words) -> Result<Length, Stop> {
 
 /// Plays to the sound file; the ticks and frames played.
 fn render(source: &Source, length: Length, sound: &mut Sound) -> Result<(u64, u64), Stop> {
-    let mut song = Ticks::new(&source.bytes);
+    let mut song = Song::new(&source.bytes);
     let mut progress = Progress::new();
     let (mut ticks, mut frames) = (0, 0);
     loop {
@@ -127,7 +93,7 @@ fn render(source: &Source, length: Length, sound: &mut Sound) -> Result<(u64, u6
             Length::Frames(all) => (2 * (all - frames)).min(TICK_NUMBERS as u64) as usize,
         };
         let next = song.next(most);
-        let numbers = next.map_err(|answer| Stop::Cannot(format!("{}: {answer}", source.name)))?;
+        let numbers = next.map_err(|answer| source.refused(answer))?;
         let Some(numbers) = numbers else {
             break;
         };

@@ -1,10 +1,11 @@
 //! replay FILE SCRIPT: a trial record run again.
 use super::input::{self, Source};
-use super::output::{self, say, say_beside, Sound};
-use super::play::Ticks;
+use super::output::{self, Sound};
 use super::progress::Progress;
+use super::song::Song;
+use super::stop::Stop;
 use super::words::Words;
-use super::{Command, Stop};
+use super::Command;
 use lampthistle::{Answer, TICK_NUMBERS};
 use std::ffi::OsStr;
 use std::fmt;
@@ -62,7 +63,7 @@ fn run(words: &Words) -> Result<bool, Stop> {
         Some(name) => Some(Sound::create(name, &[&source, &script])?),
         None => None,
     };
-    let mut song = Ticks::new(&source.bytes);
+    let mut song = Song::new(&source.bytes);
     let mut all = true;
     for call in calls {
         let answer = match call {
@@ -75,7 +76,7 @@ fn run(words: &Words) -> Result<bool, Stop> {
             Call::Page => lampthistle::change_page(&source.bytes, &mut song.state),
         };
         all &= answer.is_accepted();
-        tell(words, out, &call, &answer, &song)?;
+        tell(words, &call, &answer, &song)?;
     }
     sound.map_or(Ok(()), Sound::finish)?;
     Ok(all)
@@ -116,7 +117,7 @@ fn call(line: &str) -> Option<Call> {
 }
 
 /// Plays tick by tick, and answers as one call for all of them does.
-fn play(song: &mut Ticks, ticks: u32, sound: &mut Option<Sound>) -> Result<Answer, Stop> {
+fn play(song: &mut Song, ticks: u32, sound: &mut Option<Sound>) -> Result<Answer, Stop> {
     let mut progress = Progress::new();
     let mut answer = song.judge();
     while answer.is_accepted() && answer.count < u64::from(ticks) {
@@ -135,13 +136,7 @@ fn play(song: &mut Ticks, ticks: u32, sound: &mut Option<Sound>) -> Result<Answe
     Ok(answer)
 }
 
-fn tell(
-    words: &Words,
-    out: Option<&OsStr>,
-    call: &Call,
-    answer: &Answer,
-    song: &Ticks,
-) -> Result<(), Stop> {
+fn tell(words: &Words, call: &Call, answer: &Answer, song: &Song) -> Result<(), Stop> {
     let state = &song.state;
     let (clock, page) = (state.clock(), state.page());
     let (position, row, tick) = (state.position(), state.row(), state.tick());
@@ -163,8 +158,5 @@ fn tell(
             "{call}: {answer}{counted}; clock {clock}, page {page}, position {position}, row {row}, tick {tick}\n"
         )
     };
-    match out {
-        Some(name) => say_beside(name, &text),
-        None => say(&text),
-    }
+    output::tell(words, &text)
 }

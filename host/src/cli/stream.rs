@@ -1,10 +1,11 @@
 //! translate FILE: writes a module's tick stream. board STREAM FILE: plays one.
-use super::input;
-use super::judge::{line, plain};
-use super::output::{self, counted, say, say_beside, write_bytes, Sound};
+use super::input::{self, Source};
+use super::output::{self, counted, tell, write_bytes, Sound};
 use super::records::numbers;
+use super::report::plain;
+use super::stop::Stop;
 use super::words::Words;
-use super::{Command, Stop};
+use super::Command;
 use lampthistle::Answer;
 
 pub const TRANSLATE: Command = Command {
@@ -50,10 +51,7 @@ fn run_translate(words: &Words) -> Result<bool, Stop> {
     };
     let out = words.needed("--out")?;
     let [source] = input::read_all(words.files(["FILE"])?)?;
-    let stream = match translated(&source.bytes, ticks)? {
-        Ok(stream) => stream,
-        Err(refusal) => return say(&line(words, &source.name, &refusal)).map(|()| false),
-    };
+    let stream = translated(&source, ticks)?;
     write_bytes(out, &[&source], &stream)?;
     let bytes = stream.len();
     let text = if words.plain {
@@ -62,37 +60,29 @@ fn run_translate(words: &Words) -> Result<bool, Stop> {
         let ticks = counted(ticks.into(), "tick");
         format!("{}: {ticks} in {bytes} bytes\n", source.name)
     };
-    say_beside(out, &text).map(|()| true)
+    tell(words, &text).map(|()| true)
 }
 
-/// The stream of so many ticks, or the refusal. The first call, with no room, asks for the length.
-pub fn translated(file: &[u8], ticks: u32) -> Result<Result<Vec<u8>, Answer>, Stop> {
+/// The stream of so many ticks. The first call, with no room, asks for the length.
+pub fn translated(source: &Source, ticks: u32) -> Result<Vec<u8>, Stop> {
     const ROOM_NEEDED: u64 = 12;
-    let asked = lampthistle::translate(file, ticks, &mut []);
+    let asked = lampthistle::translate(&source.bytes, ticks, &mut []);
     if asked.number != ROOM_NEEDED {
-        return Ok(Err(asked));
+        return Err(source.refused(asked));
     }
     let mut room = zeros(asked.place, "the stream")?;
-    let answer = lampthistle::translate(file, ticks, &mut room);
-    Ok(if answer.is_accepted() {
-        Ok(room)
-    } else {
-        Err(answer)
-    })
+    let answer = lampthistle::translate(&source.bytes, ticks, &mut room);
+    if !answer.is_accepted() {
+        return Err(source.refused(answer));
+    }
+    Ok(room)
 }
 
 fn run_board(words: &Words) -> Result<bool, Stop> {
     let out = words.needed("--out")?;
     output::format(out)?;
     let [stream, file] = input::read_all(words.files(["STREAM", "FILE"])?)?;
-    let (answer, frames) = match board(&stream.bytes, &file.bytes)? {
-        Ok(played) => played,
-        Err(refusal) => {
-            // Refusals below 10 are the module's.
-            let name = if refusal.number < 10 { &file } else { &stream };
-            return say(&line(words, &name.name, &refusal)).map(|()| false);
-        }
-    };
+    let (answer, frames) = board(&stream, &file)?;
     let mut sound = Sound::create(out, &[&stream, &file])?;
     sound.write(&frames)?;
     sound.finish()?;
@@ -101,25 +91,25 @@ fn run_board(words: &Words) -> Result<bool, Stop> {
     } else {
         output::played(&stream.name, answer.count, frames.len() as u64 / 2)
     };
-    say_beside(out, &text).map(|()| true)
+    tell(words, &text).map(|()| true)
 }
 
-/// Plays a whole stream: the answer and the numbers, or the refusal.
+/// Plays a whole stream: the answer and the numbers.
 ///
 /// The call always begins at the stream's first tick with stopped voices, so the ticks cannot be played in pieces: the buffer takes
 /// all of them, and its size comes from a pass over the records' tempos.
-pub fn board(stream: &[u8], file: &[u8]) -> Result<Result<(Answer, Vec<i16>), Answer>, Stop> {
-    let judged = lampthistle::play_stream(stream, file, &mut []);
-    if !judged.is_accepted() {
-        return Ok(Err(judged));
-    }
-    let mut frames = zeros(numbers(stream), "the sound")?;
-    let answer = lampthistle::play_stream(stream, file, &mut frames);
-    Ok(if answer.is_accepted() {
-        Ok((answer, frames))
-    } else {
-        Err(answer)
-    })
+pub fn board(stream: &Source, file: &Source) -> Result<(Answer, Vec<i16>), Stop> {
+    // Refusals below 10 are the module's.
+    let accepted = |answer: Answer| match answer.number {
+        0 => Ok(answer),
+        1..10 => Err(file.refused(answer)),
+        _ => Err(stream.refused(answer)),
+    };
+    let judged = lampthistle::play_stream(&stream.bytes, &file.bytes, &mut []);
+    let _ = accepted(judged)?;
+    let mut frames = zeros(numbers(&stream.bytes), "the sound")?;
+    let answer = lampthistle::play_stream(&stream.bytes, &file.bytes, &mut frames);
+    accepted(answer).map(|answer| (answer, frames))
 }
 
 fn zeros<T: Copy + Default>(length: u64, what: &str) -> Result<Vec<T>, Stop> {

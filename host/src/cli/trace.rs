@@ -1,10 +1,11 @@
 //! trace FILE: a line a tick, from the translated stream.
-use super::judge::{line, plain};
 use super::output::say;
 use super::records::{records, Command as Registers, Record};
+use super::report::plain;
+use super::stop::Stop;
 use super::stream::translated;
 use super::words::Words;
-use super::{input, Command, Stop};
+use super::{input, Command};
 use lampthistle::Answer;
 
 pub const COMMAND: Command = Command {
@@ -35,10 +36,7 @@ const PIECE: usize = 1 << 16;
 fn run(words: &Words) -> Result<bool, Stop> {
     let ticks = words.number("--ticks")?.unwrap_or(TICKS);
     let [source] = input::read_all(words.files(["FILE"])?)?;
-    let stream = match translated(&source.bytes, ticks)? {
-        Ok(stream) => stream,
-        Err(refusal) => return say(&line(words, &source.name, &refusal)).map(|()| false),
-    };
+    let stream = translated(&source, ticks)?;
     let mut text = heading(words, stream.len() as u64);
     let mut registers = [Registers::default(); 4];
     for (tick, record) in records(&stream).enumerate() {

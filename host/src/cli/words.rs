@@ -1,6 +1,6 @@
 //! The words of a command line: files, options with values, --plain and --help.
 use super::input::shown;
-use super::Stop;
+use super::stop::Stop;
 use std::ffi::{OsStr, OsString};
 
 pub struct Words {

@@ -1,5 +1,6 @@
 //! The command line, run as a person or a script runs it.
 mod commands;
 mod common;
+mod outputs;
 mod robust;
 mod streams;

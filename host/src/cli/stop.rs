@@ -1,0 +1,51 @@
+//! Why a command ends before its work is done, and the exit status that this gives.
+use lampthistle::Answer;
+use std::io::{self, Write};
+
+pub enum Stop {
+    Usage(String),
+    /// A name, and what the system says of it.
+    Io(String, io::Error),
+    Cannot(String),
+    /// The reason is on standard error already.
+    Told,
+    Refused(Refusal),
+}
+
+/// A file that the library refuses.
+pub struct Refusal {
+    pub name: String,
+    pub answer: Answer,
+}
+
+impl Stop {
+    /// 1 for a refusal; 2 for wrong use, and for a file that cannot be read or written.
+    pub fn status(&self) -> u8 {
+        match self {
+            Stop::Refused(_) => 1,
+            _ => 2,
+        }
+    }
+
+    /// Says on standard error why; a closed pipe is the reader's choice, and nothing to report.
+    pub fn tell(&self) {
+        let text = match self {
+            Stop::Io(_, e) if e.kind() == io::ErrorKind::BrokenPipe => return,
+            Stop::Told => return,
+            Stop::Usage(what) | Stop::Cannot(what) => what.clone(),
+            Stop::Io(name, e) => format!("{name}: {}", cause(e)),
+            Stop::Refused(Refusal { name, answer }) => format!("{name}: {answer}"),
+        };
+        // Nothing more can be done if standard error is closed, too.
+        let _ = writeln!(io::stderr(), "lampthistle: {text}");
+    }
+}
+
+/// What the system says, without the number that Rust adds.
+fn cause(e: &io::Error) -> String {
+    let text = e.to_string();
+    match text.rfind(" (os error ") {
+        Some(end) => text[..end].into(),
+        None => text,
+    }
+}

@@ -1,0 +1,45 @@
+//! Where results and messages go.
+use crate::common::{own, stored, told};
+
+/// A stored module with another tag.
+fn refused(name: &str) -> String {
+    let mut file = std::fs::read(stored("flow")).unwrap();
+    file[1080] = b'm';
+    let bad = own(name);
+    std::fs::write(&bad, file).unwrap();
+    bad.to_str().unwrap().into()
+}
+
+#[test]
+fn a_refusal_stays_out_of_the_sound() {
+    let bad = &refused("refused_sound.mod");
+    let stream = own("refused_sound.stream");
+    let stream = stream.to_str().unwrap();
+    let words = [
+        "translate",
+        &stored("flow"),
+        "--ticks",
+        "3",
+        "--out",
+        stream,
+    ];
+    assert_eq!(told(&words).0, 0);
+    for words in [
+        &["play", bad, "--out", "-"][..],
+        &["translate", bad, "--ticks", "3", "--out", "-"],
+        &["board", stream, bad, "--out", "-"],
+    ] {
+        let (status, out, err) = told(words);
+        assert_eq!((status, out.as_str()), (1, ""), "{words:?}");
+        assert!(
+            err.contains("refused_sound.mod: refused 2 at 1080"),
+            "{err}"
+        );
+    }
+}
+
+#[test]
+fn messages_are_in_words_alone() {
+    let (_, _, err) = told(&["judge", "no/such"]);
+    assert_eq!(err, "lampthistle: no/such: No such file or directory\n");
+}
