@@ -59,6 +59,7 @@ fn run(words: &Words) -> Result<bool, Stop> {
     out.map(output::format).transpose()?;
     let [source, script] = input::read_all(words.files(["FILE", "SCRIPT"])?)?;
     let calls = calls(&script)?;
+    let _ = source.judge()?;
     let mut sound = match out {
         Some(name) => Some(Sound::create(name, &[&source, &script])?),
         None => None,

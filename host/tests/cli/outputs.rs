@@ -43,3 +43,22 @@ fn messages_are_in_words_alone() {
     let (_, _, err) = told(&["judge", "no/such"]);
     assert_eq!(err, "lampthistle: no/such: No such file or directory\n");
 }
+
+#[test]
+fn replay_judges_before_it_opens() {
+    let bad = &refused("refused_replay.mod");
+    let kept = own("refused_replay.raw");
+    std::fs::write(&kept, "kept").unwrap();
+    let script = own("refused_replay.txt");
+    for calls in ["", "play 3\ntouch 0 0 0\n"] {
+        std::fs::write(&script, calls).unwrap();
+        let (script, kept) = (script.to_str().unwrap(), kept.to_str().unwrap());
+        let (status, out, err) = told(&["replay", bad, script, "--out", kept]);
+        assert_eq!((status, err.as_str()), (1, ""));
+        assert!(
+            out.contains("refused_replay.mod: refused 2 at 1080"),
+            "{out}"
+        );
+        assert_eq!(std::fs::read(kept).unwrap(), b"kept");
+    }
+}
