@@ -1,4 +1,5 @@
 //! info FILE: what an accepted module holds, read by offset.
+use super::layout::{headers, pattern_count, played, readable, Header, TITLE};
 use super::output::say;
 use super::report::plain;
 use super::stop::Stop;
@@ -23,31 +24,12 @@ Exit status: 0 accepted; 1 refused; 2 wrong use, or a file that cannot be read.
     run,
 };
 
-const TITLE: std::ops::Range<usize> = 0..20;
-const HEADERS: std::ops::Range<usize> = 20..950;
-const HEADER_BYTES: usize = 30;
-const NAME_BYTES: usize = 22;
-const SONG_LENGTH: usize = 950;
-const TABLE: std::ops::Range<usize> = 952..1080;
-
-struct Header<'a> {
-    number: usize,
-    name: &'a [u8],
-    length: u32,
-    volume: u8,
-    loop_start: u32,
-    loop_length: u32,
-}
-
 fn run(words: &Words) -> Result<bool, Stop> {
     let [source] = input::read_all(words.files(["FILE"])?)?;
     let answer = source.judge()?;
     let file = &source.bytes;
-    let patterns = file[TABLE]
-        .iter()
-        .max()
-        .map_or(0, |&last| last as usize + 1);
-    let played = &file[TABLE][..file[SONG_LENGTH].into()];
+    let patterns = pattern_count(file);
+    let played = played(file);
     let table: Vec<String> = played.iter().map(u8::to_string).collect();
     let mut text = String::new();
     if words.plain {
@@ -65,20 +47,6 @@ fn run(words: &Words) -> Result<bool, Stop> {
         text += &sample_line(words, &header);
     }
     say(&text).map(|()| true)
-}
-
-fn headers(file: &[u8]) -> impl Iterator<Item = Header<'_>> {
-    let word =
-        |bytes: &[u8], at: usize| 2 * (u32::from(bytes[at]) * 256 + u32::from(bytes[at + 1]));
-    let all = file[HEADERS].chunks_exact(HEADER_BYTES).enumerate();
-    all.map(move |(k, bytes)| Header {
-        number: k + 1,
-        name: &bytes[..NAME_BYTES],
-        length: word(bytes, 22),
-        volume: bytes[25],
-        loop_start: word(bytes, 26),
-        loop_length: word(bytes, 28),
-    })
 }
 
 fn sample_line(words: &Words, header: &Header) -> String {
@@ -107,15 +75,4 @@ fn sample_line(words: &Words, header: &Header) -> String {
         .trim_end()
         .to_string()
         + "\n"
-}
-
-/// Text of a file up to its first zero byte, with a dot for what does not print.
-fn readable(bytes: &[u8]) -> String {
-    let text = bytes.split(|&byte| byte == 0).next().unwrap_or(bytes);
-    text.iter()
-        .map(|&byte| match byte {
-            b' '..=b'~' => char::from(byte),
-            _ => '.',
-        })
-        .collect()
 }

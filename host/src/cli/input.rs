@@ -2,7 +2,7 @@
 use super::stop::{Refusal, Stop};
 use lampthistle::Answer;
 use std::ffi::OsStr;
-use std::fs::File;
+use std::fs::{File, Metadata};
 use std::io::{self, Read};
 use std::os::unix::fs::MetadataExt;
 
@@ -67,7 +67,7 @@ pub fn read(name: &OsStr) -> Result<Source, Stop> {
     }
     let text = shown(name);
     let file = File::open(name).map_err(|e| Stop::Io(text.clone(), e))?;
-    let identity = identity(&file);
+    let identity = file.metadata().ok().and_then(|about| identity(&about));
     read_from(text, file, identity)
 }
 
@@ -88,7 +88,7 @@ fn read_from(name: String, from: impl Read, identity: Option<Identity>) -> Resul
     })
 }
 
-pub fn identity(file: &File) -> Option<Identity> {
-    let about = file.metadata().ok()?;
+/// A regular file's identity.
+pub fn identity(about: &Metadata) -> Option<Identity> {
     about.is_file().then(|| (about.dev(), about.ino()))
 }

@@ -1,8 +1,9 @@
 //! replay FILE SCRIPT: a trial record run again.
 use super::input::{self, Source};
-use super::output::{self, Sound};
+use super::output;
 use super::progress::Progress;
 use super::song::Song;
+use super::sound::{self, check_room, Sound};
 use super::stop::Stop;
 use super::words::Words;
 use super::Command;
@@ -56,31 +57,68 @@ impl fmt::Display for Call {
 
 fn run(words: &Words) -> Result<bool, Stop> {
     let out = words.value("--out");
-    out.map(output::format).transpose()?;
+    out.map(sound::format).transpose()?;
     let [source, script] = input::read_all(words.files(["FILE", "SCRIPT"])?)?;
     let calls = calls(&script)?;
     let _ = source.judge()?;
     let mut sound = match out {
-        Some(name) => Some(Sound::create(name, &[&source, &script])?),
+        Some(name) => {
+            check_room(name, most(&calls), |room| frames_of(&source, &calls, room))?;
+            Some(Sound::create(name, &[&source, &script])?)
+        }
         None => None,
     };
     let mut song = Song::new(&source.bytes);
     let mut all = true;
-    for call in calls {
-        let answer = match call {
-            Call::Play(ticks) => play(&mut song, ticks, &mut sound)?,
-            Call::Touch {
-                page,
-                made,
-                position,
-            } => lampthistle::touch(&source.bytes, &mut song.state, page, made, position),
-            Call::Page => lampthistle::change_page(&source.bytes, &mut song.state),
-        };
+    for call in &calls {
+        let answer = run_call(&mut song, call, |numbers| match &mut sound {
+            Some(sound) => sound.write(numbers).map(|()| true),
+            None => Ok(true),
+        })?;
         all &= answer.is_accepted();
-        tell(words, &call, &answer, &song)?;
+        tell(words, call, &answer, &song)?;
     }
     sound.map_or(Ok(()), Sound::finish)?;
     Ok(all)
+}
+
+/// The frames at most of all calls.
+fn most(calls: &[Call]) -> u64 {
+    let ticks = calls.iter().map(|call| match call {
+        Call::Play(ticks) => u64::from(*ticks),
+        _ => 0,
+    });
+    ticks.sum::<u64>() * (TICK_NUMBERS / 2) as u64
+}
+
+/// The frames of all calls, counted until they are more than `limit`.
+fn frames_of(source: &Source, calls: &[Call], limit: u64) -> Result<u64, Stop> {
+    let mut song = Song::silent(&source.bytes);
+    let mut frames = 0;
+    for call in calls {
+        let _ = run_call(&mut song, call, |numbers| {
+            frames += numbers.len() as u64 / 2;
+            Ok(frames <= limit)
+        })?;
+    }
+    Ok(frames)
+}
+
+/// Runs a call; each tick's numbers go to `heard`, which says whether to go on.
+fn run_call(
+    song: &mut Song,
+    call: &Call,
+    heard: impl FnMut(&[i16]) -> Result<bool, Stop>,
+) -> Result<Answer, Stop> {
+    match *call {
+        Call::Play(ticks) => play(song, ticks, heard),
+        Call::Touch {
+            page,
+            made,
+            position,
+        } => Ok(song.touch(page, made, position)),
+        Call::Page => Ok(song.change_page()),
+    }
 }
 
 /// All calls of a record, so that a bad line is found before anything is played.
@@ -118,21 +156,24 @@ fn call(line: &str) -> Option<Call> {
 }
 
 /// Plays tick by tick, and answers as one call for all of them does.
-fn play(song: &mut Song, ticks: u32, sound: &mut Option<Sound>) -> Result<Answer, Stop> {
+fn play(
+    song: &mut Song,
+    ticks: u32,
+    mut heard: impl FnMut(&[i16]) -> Result<bool, Stop>,
+) -> Result<Answer, Stop> {
     let mut progress = Progress::new();
-    let mut answer = song.judge();
-    while answer.is_accepted() && answer.count < u64::from(ticks) {
+    let mut answer = Answer {
+        number: 0,
+        place: 0,
+        count: 0,
+    };
+    while answer.count < u64::from(ticks) {
         match song.next(TICK_NUMBERS) {
-            Ok(Some(numbers)) => {
-                if let Some(sound) = sound {
-                    sound.write(numbers)?;
-                }
-                answer.count += 1;
-                progress.show("ticks", answer.count, ticks.into());
-            }
-            Ok(None) => break,
-            Err(refusal) => answer = refusal,
+            Ok(Some(numbers)) if heard(numbers)? => answer.count += 1,
+            Ok(_) => break,
+            Err(refusal) => return Ok(refusal),
         }
+        progress.show("ticks", answer.count, ticks.into());
     }
     Ok(answer)
 }

@@ -1,14 +1,26 @@
 //! A module that is played one tick a call.
+use super::layout;
 use lampthistle::{Answer, State, TICK_NUMBERS};
+use std::borrow::Cow;
 
 pub struct Song<'a> {
-    file: &'a [u8],
+    file: Cow<'a, [u8]>,
     pub state: State,
     numbers: Vec<i16>,
 }
 
 impl<'a> Song<'a> {
+    /// An accepted module before its first tick.
     pub fn new(file: &'a [u8]) -> Song<'a> {
+        Song::of(Cow::Borrowed(file))
+    }
+
+    /// The same ticks of an accepted module, without their sound.
+    pub fn silent(file: &[u8]) -> Song<'static> {
+        Song::of(Cow::Owned(layout::silenced(file)))
+    }
+
+    fn of(file: Cow<[u8]>) -> Song {
         Song {
             file,
             state: lampthistle::fresh(),
@@ -16,19 +28,22 @@ impl<'a> Song<'a> {
         }
     }
 
-    /// What a call for no tick answers: the module's and the state's judging.
-    pub fn judge(&mut self) -> Answer {
-        lampthistle::play(self.file, &mut self.state, 0, &mut [])
-    }
-
     /// The next tick's numbers, if they are at most `most`; else none. Or the refusal.
     pub fn next(&mut self, most: usize) -> Result<Option<&[i16]>, Answer> {
         let room = &mut self.numbers[..most.min(TICK_NUMBERS)];
-        let answer = lampthistle::play(self.file, &mut self.state, 1, room);
+        let answer = lampthistle::play(&self.file, &mut self.state, 1, room);
         if !answer.is_accepted() {
             return Err(answer);
         }
         let played = 2 * self.state.last_tick_frames();
         Ok((answer.count == 1).then(|| &self.numbers[..played.min(TICK_NUMBERS)]))
+    }
+
+    pub fn touch(&mut self, page: u32, made: u32, position: u32) -> Answer {
+        lampthistle::touch(&self.file, &mut self.state, page, made, position)
+    }
+
+    pub fn change_page(&mut self) -> Answer {
+        lampthistle::change_page(&self.file, &mut self.state)
     }
 }

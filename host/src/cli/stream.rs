@@ -1,8 +1,9 @@
 //! translate FILE: writes a module's tick stream. board STREAM FILE: plays one.
 use super::input::{self, Source};
-use super::output::{self, counted, tell, write_bytes, Sound};
+use super::output::{self, counted, tell, write_bytes};
 use super::records::numbers;
 use super::report::plain;
+use super::sound::{self, check_room, Sound};
 use super::stop::Stop;
 use super::words::Words;
 use super::Command;
@@ -80,9 +81,11 @@ pub fn translated(source: &Source, ticks: u32) -> Result<Vec<u8>, Stop> {
 
 fn run_board(words: &Words) -> Result<bool, Stop> {
     let out = words.needed("--out")?;
-    output::format(out)?;
+    sound::format(out)?;
     let [stream, file] = input::read_all(words.files(["STREAM", "FILE"])?)?;
     let (answer, frames) = board(&stream, &file)?;
+    let count = frames.len() as u64 / 2;
+    check_room(out, count, |_| Ok(count))?;
     let mut sound = Sound::create(out, &[&stream, &file])?;
     sound.write(&frames)?;
     sound.finish()?;

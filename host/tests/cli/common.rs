@@ -2,6 +2,8 @@
 use std::ffi::OsStr;
 use std::path::{Path, PathBuf};
 use std::process::{Command, Output, Stdio};
+use std::thread::sleep;
+use std::time::{Duration, Instant};
 
 /// The command, with nothing on standard input, in a folder of its own.
 pub fn command<S: AsRef<OsStr>>(words: &[S]) -> Command {
@@ -28,11 +30,48 @@ pub fn said(output: Output) -> (i32, String, String) {
     (status, text(output.stdout), text(output.stderr))
 }
 
+/// Runs to the end, which must come within a minute.
+pub fn in_time(command: &mut Command) -> Output {
+    let mut child = command
+        .stdout(Stdio::piped())
+        .stderr(Stdio::piped())
+        .spawn()
+        .expect("the command runs");
+    let late = Instant::now() + Duration::from_secs(60);
+    while child.try_wait().expect("it is there").is_none() {
+        if Instant::now() > late {
+            child.kill().expect("it runs");
+            panic!("it did not end: {command:?}");
+        }
+        sleep(Duration::from_millis(5));
+    }
+    child.wait_with_output().expect("it ended")
+}
+
+/// An empty folder of this name in the tests' own folder.
+pub fn folder(name: &str) -> PathBuf {
+    let folder = own(name);
+    let _ = std::fs::remove_dir_all(&folder);
+    std::fs::create_dir(&folder).expect("a new folder");
+    folder
+}
+
 /// A stored module.
 pub fn stored(name: &str) -> String {
     let root = Path::new(env!("CARGO_MANIFEST_DIR")).join("..");
     let file = root.join("crates/play_cases/data").join(name);
     file.to_str().expect("a plain path").into()
+}
+
+/// A new module of one pattern and no samples, with these first cells, as a file of this name in the tests' own folder.
+pub fn quiet(name: &str, cells: &[u8]) -> String {
+    let mut file = vec![0; 2_108];
+    file[950] = 1;
+    file[1080..1084].copy_from_slice(b"M.K.");
+    file[1084..][..cells.len()].copy_from_slice(cells);
+    let path = own(name);
+    std::fs::write(&path, file).expect("it can be written");
+    path.to_str().expect("a plain path").into()
 }
 
 /// A file's name in the tests' own folder.

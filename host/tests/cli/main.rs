@@ -3,4 +3,5 @@ mod commands;
 mod common;
 mod outputs;
 mod robust;
+mod sounds;
 mod streams;

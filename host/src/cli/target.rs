@@ -1,0 +1,115 @@
+//! A file that is written. A regular file gets its name only when all of it is there; until then it stands beside it, and what had the
+//! name before stays. A pipe or a device is written as it is.
+use super::input::{identity, shown, Source};
+use super::stop::Stop;
+use std::ffi::OsStr;
+use std::fs::{self, File};
+use std::io::{self, Seek, SeekFrom, Write};
+use std::os::fd::AsFd;
+use std::path::{Path, PathBuf};
+
+pub struct Target {
+    file: File,
+    /// The name as messages show it.
+    pub name: String,
+    part: Option<Part>,
+}
+
+/// The name that an unfinished file has, and the one that it gets.
+struct Part {
+    beside: PathBuf,
+    finished: PathBuf,
+}
+
+impl Target {
+    /// Opens a file by its name, standard output for -, but none of the files that were read.
+    pub fn create(name: &OsStr, sources: &[&Source]) -> Result<Target, Stop> {
+        let told = |e| Stop::Io(shown(name), e);
+        let of = |file, part| Target {
+            file,
+            name: shown(name),
+            part,
+        };
+        if name == "-" {
+            let out = io::stdout().as_fd().try_clone_to_owned();
+            return Ok(of(out.map_err(told)?.into(), None));
+        }
+        // Looked at by name: opening a pipe waits for its other end, and opening a device may do more.
+        let about = match fs::metadata(name) {
+            Err(e) if e.kind() == io::ErrorKind::NotFound => {
+                let (file, part) = beside(Path::new(name).into()).map_err(told)?;
+                return Ok(of(file, Some(part)));
+            }
+            about => about.map_err(told)?,
+        };
+        let there = identity(&about);
+        if there.is_some() && sources.iter().any(|source| source.identity == there) {
+            return Err(Stop::Cannot(format!("{}: is read, too", shown(name))));
+        }
+        let file = File::options().write(true).open(name).map_err(told)?;
+        if !about.is_file() {
+            return Ok(of(file, None));
+        }
+        // A link stays one: the file that it names is replaced.
+        let (file, part) = fs::canonicalize(name).and_then(beside).map_err(told)?;
+        let target = of(file, Some(part));
+        let same = target.file.set_permissions(about.permissions());
+        same.map(|()| target).map_err(told)
+    }
+
+    /// Whether bytes that were written can be written again, as in a regular file.
+    pub fn can_go_back(&self) -> bool {
+        self.part.is_some()
+    }
+
+    /// Gives the file its name.
+    pub fn finish(mut self) -> Result<(), Stop> {
+        let Some(part) = self.part.take() else {
+            return Ok(());
+        };
+        fs::rename(&part.beside, &part.finished).map_err(|e| {
+            let _ = fs::remove_file(&part.beside);
+            Stop::Io(self.name.clone(), e)
+        })
+    }
+}
+
+/// A new file beside the one with this name.
+fn beside(finished: PathBuf) -> io::Result<(File, Part)> {
+    let own = finished.file_name().unwrap_or_default();
+    for k in 0.. {
+        let mut name = own.to_os_string();
+        name.push(format!(".{}-{k}.part", std::process::id()));
+        let beside = finished.with_file_name(name);
+        match File::create_new(&beside) {
+            Err(e) if e.kind() == io::ErrorKind::AlreadyExists => continue,
+            file => return Ok((file?, Part { beside, finished })),
+        }
+    }
+    Err(io::ErrorKind::AlreadyExists.into())
+}
+
+impl Write for Target {
+    fn write(&mut self, bytes: &[u8]) -> io::Result<usize> {
+        self.file.write(bytes)
+    }
+
+    fn flush(&mut self) -> io::Result<()> {
+        self.file.flush()
+    }
+}
+
+impl Seek for Target {
+    fn seek(&mut self, to: SeekFrom) -> io::Result<u64> {
+        self.file.seek(to)
+    }
+}
+
+impl Drop for Target {
+    /// Work that failed leaves nothing behind.
+    fn drop(&mut self) {
+        if let Some(part) = &self.part {
+            let _ = fs::remove_file(&part.beside);
+        }
+    }
+}
