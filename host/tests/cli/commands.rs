@@ -13,8 +13,9 @@ fn judge_answers_a_line_a_file() {
     let lines =
         format!("{good}: accepted\n{bad}: refused 2 at 1080: the tag at byte 1080 is not M.K.\n");
     assert_eq!((status, out, err), (1, lines, String::new()));
-    let (status, out, _) = told(&["judge", "--plain", &good, bad]);
-    assert_eq!((status, out.as_str()), (1, "0 0 0\n2 1080 0\n"));
+    let (status, out, _) = told(&["judge", "--plain", &good, "no/such", bad]);
+    let lines = format!("0 0 0 {good}\n- - - no/such\n2 1080 0 {bad}\n");
+    assert_eq!((status, out), (2, lines));
     assert_eq!(told(&["judge", &good]).0, 0);
 }
 

@@ -51,7 +51,7 @@ fn files_that_are_no_modules_are_refused() {
         ("/dev/null", "1 0 0\n"),
         (zeros, "2 1080 0\n"),
     ] {
-        for command in ["judge", "info", "trace", "compare"] {
+        for command in ["info", "trace", "compare"] {
             let (status, out, err) = told(&[command, "--plain", file]);
             assert_eq!(
                 (status, out.as_str(), err.as_str()),
@@ -59,6 +59,8 @@ fn files_that_are_no_modules_are_refused() {
                 "{command}"
             );
         }
+        let (status, out, _) = told(&["judge", "--plain", file]);
+        assert_eq!((status, out), (1, format!("{} {file}\n", answer.trim())));
         let (status, out, _) = told(&["play", "--plain", file, "--out", "refused.wav"]);
         assert_eq!((status, out.as_str()), (1, answer));
         assert!(!own("refused.wav").exists());
