@@ -1,11 +1,13 @@
 //! compare FILE: the player and the sound board, number by number.
+use super::board::Board;
 use super::input::{self, Source};
 use super::output::{counted, say};
 use super::progress::Progress;
+use super::records;
 use super::report::plain;
 use super::song::Song;
 use super::stop::Stop;
-use super::stream::{board, translated};
+use super::stream::translated;
 use super::words::Words;
 use super::Command;
 use lampthistle::{Answer, TICK_NUMBERS};
@@ -34,21 +36,20 @@ const TICKS: u32 = 1_000;
 fn run(words: &Words) -> Result<bool, Stop> {
     let ticks = words.number("--ticks")?.unwrap_or(TICKS);
     let [source] = input::read_all(words.files(["FILE"])?)?;
-    let stream = Source {
-        name: source.name.clone(),
-        bytes: translated(&source, ticks)?,
-        identity: None,
-    };
-    let (answer, numbers) = board(&stream, &source)?;
+    let stream = translated(&source, ticks)?;
     let name = &source.name;
-    let text = match difference(&source.bytes, ticks, &answer, &numbers) {
+    let text = match difference(&source, &stream)? {
         Some(what) => {
             Stop::Cannot(format!("{name}: DIFFERENT: {what}")).tell();
             return Ok(false);
         }
-        None if words.plain => plain(&answer),
+        None if words.plain => plain(&Answer {
+            number: 0,
+            place: 0,
+            count: ticks.into(),
+        }),
         None => {
-            let frames = counted(numbers.len() as u64 / 2, "frame");
+            let frames = counted(records::frames(&stream), "frame");
             let ticks = counted(ticks.into(), "tick");
             format!("{name}: {ticks}, {frames}: player and board are equal\n")
         }
@@ -56,36 +57,34 @@ fn run(words: &Words) -> Result<bool, Stop> {
     say(&text).map(|()| true)
 }
 
-/// Plays the module against the board's numbers; the first difference, if there is one.
-fn difference(file: &[u8], ticks: u32, answer: &Answer, board: &[i16]) -> Option<String> {
-    let mut song = Song::new(file);
+/// Plays the module and the stream side by side; the first difference, if there is one.
+fn difference(source: &Source, stream: &[u8]) -> Result<Option<String>, Stop> {
+    let ticks = records::ticks(stream);
+    let mut song = Song::new(&source.bytes);
+    let mut board = Board::new(stream, &source.bytes);
     let mut progress = Progress::new();
-    let mut rest = board;
     for tick in 0..ticks {
-        let numbers = match song.next(TICK_NUMBERS) {
-            Ok(Some(numbers)) => numbers,
-            Ok(None) => return Some(format!("tick {tick}: the player plays no more")),
-            Err(refusal) => return Some(format!("tick {tick}: the player: {refusal}")),
+        let Some(own) = board.next()? else {
+            return Ok(Some(format!("tick {tick}: the board plays no more")));
         };
-        let Some((own, after)) = rest.split_at_checked(numbers.len()) else {
-            return Some(format!("tick {tick}: the board's ticks are shorter"));
-        };
-        if let Some(k) = (0..own.len()).find(|&k| own[k] != numbers[k]) {
+        let next = song.next(TICK_NUMBERS);
+        let numbers = next
+            .map_err(|answer| source.refused(answer))?
+            .unwrap_or(&[]);
+        if let Some(k) = (0..own.len().max(numbers.len())).find(|&k| own.get(k) != numbers.get(k)) {
             let (frame, side) = (k / 2, ["left", "right"][k % 2]);
-            return Some(format!(
+            return Ok(Some(format!(
                 "tick {tick}, frame {frame}, {side}: player {}, board {}",
-                numbers[k], own[k]
-            ));
+                number(numbers, k),
+                number(own, k)
+            )));
         }
-        rest = after;
-        progress.show("ticks", u64::from(tick) + 1, ticks.into());
+        progress.show("ticks", tick + 1, ticks);
     }
-    if answer.count != u64::from(ticks) || !rest.is_empty() {
-        let left = rest.len();
-        return Some(format!(
-            "the board played {} ticks, with {left} numbers more",
-            answer.count
-        ));
-    }
-    None
+    Ok(None)
+}
+
+/// A number, or none after the last.
+fn number(numbers: &[i16], k: usize) -> String {
+    numbers.get(k).map_or("none".into(), i16::to_string)
 }

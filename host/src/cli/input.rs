@@ -6,8 +6,9 @@ use std::fs::{File, Metadata};
 use std::io::{self, Read};
 use std::os::unix::fs::MetadataExt;
 
-/// Bytes read at most, so that a file without an end, such as /dev/zero, does not fill the memory.
-const MOST_BYTES: u64 = 1 << 28;
+/// Bytes read at most: the longest stream's, and fewer of what may have no end, such as /dev/zero.
+const MOST_BYTES: u64 = 4 + u32::MAX as u64;
+const MOST_ENDLESS: u64 = 1 << 28;
 
 /// Which file it is, by device and number.
 pub type Identity = (u64, u64);
@@ -72,14 +73,13 @@ pub fn read(name: &OsStr) -> Result<Source, Stop> {
 }
 
 fn read_from(name: String, from: impl Read, identity: Option<Identity>) -> Result<Source, Stop> {
+    let most = identity.map_or(MOST_ENDLESS, |_| MOST_BYTES);
     let mut bytes = Vec::new();
-    if let Err(e) = from.take(MOST_BYTES + 1).read_to_end(&mut bytes) {
+    if let Err(e) = from.take(most + 1).read_to_end(&mut bytes) {
         return Err(Stop::Io(name, e));
     }
-    if bytes.len() as u64 > MOST_BYTES {
-        return Err(Stop::Cannot(format!(
-            "{name}: larger than {MOST_BYTES} bytes"
-        )));
+    if bytes.len() as u64 > most {
+        return Err(Stop::Cannot(format!("{name}: larger than {most} bytes")));
     }
     Ok(Source {
         name,

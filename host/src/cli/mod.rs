@@ -1,4 +1,5 @@
 //! The commands, and how the program ends: 0 accepted; 1 refused or different; 2 wrong use, or a file that cannot be read or written.
+mod board;
 mod compare;
 mod info;
 mod input;

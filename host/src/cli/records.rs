@@ -1,9 +1,13 @@
-//! The records of a tick stream that the library wrote or accepted, read by offset.
+//! The records of a tick stream that the library wrote or accepted, read and written by offset.
 
-const CHANNELS: usize = 4;
-/// Bytes before the first record, and of one channel's command.
+pub const CHANNELS: usize = 4;
+/// Where the count of ticks is, and the bytes before the first record and of one channel's command.
+const TICKS: std::ops::Range<usize> = 5..9;
 const START: usize = 9;
 const COMMAND_BYTES: usize = 6;
+/// Bytes that the stream's first number does not count, and the version.
+const UNCOUNTED: usize = 4;
+const VERSION: u8 = 1;
 
 /// One tick: its tempo, and for each channel whose bit is set its command.
 pub struct Record {
@@ -21,15 +25,32 @@ pub struct Command {
     pub offset: u8,
 }
 
-/// The records from the stream's first on.
+/// The records from one on.
+#[derive(Clone)]
 pub struct Records<'a> {
     rest: &'a [u8],
 }
 
+/// All records of a stream.
 pub fn records(stream: &[u8]) -> Records<'_> {
     Records {
         rest: stream.get(START..).unwrap_or(&[]),
     }
+}
+
+/// How many ticks an accepted stream has.
+pub fn ticks(stream: &[u8]) -> u64 {
+    let bytes = stream.get(TICKS).unwrap_or(&[]);
+    bytes
+        .iter()
+        .fold(0, |high, &low| 256 * high + u64::from(low))
+}
+
+/// The frames of all ticks of a stream.
+pub fn frames(stream: &[u8]) -> u64 {
+    records(stream)
+        .map(|record| lampthistle::tick_frames(record.tempo) as u64)
+        .sum()
 }
 
 impl Records<'_> {
@@ -65,9 +86,41 @@ impl Iterator for Records<'_> {
     }
 }
 
-/// The numbers that all ticks of the stream take.
-pub fn numbers(stream: &[u8]) -> u64 {
-    records(stream)
-        .map(|record| 2 * lampthistle::tick_frames(record.tempo) as u64)
-        .sum()
+/// A stream that is being written.
+pub struct Writer {
+    bytes: Vec<u8>,
+    ticks: u32,
+}
+
+impl Writer {
+    pub fn new() -> Writer {
+        Writer {
+            bytes: vec![0; START],
+            ticks: 0,
+        }
+    }
+
+    pub fn write(&mut self, record: &Record) {
+        let channels = record.commands.iter().enumerate();
+        let mask = channels.fold(0, |mask, (channel, command)| {
+            mask | u8::from(command.is_some()) << channel
+        });
+        self.bytes.extend_from_slice(&[mask, record.tempo as u8]);
+        for command in record.commands.iter().flatten() {
+            let [high, low] = command.period.to_be_bytes();
+            let (sample, volume, start) = (command.sample, command.volume, command.start.into());
+            let bytes = [sample, volume, high, low, start, command.offset];
+            self.bytes.extend_from_slice(&bytes);
+        }
+        self.ticks += 1;
+    }
+
+    /// The whole stream, and its ticks.
+    pub fn finish(mut self) -> (Vec<u8>, u64) {
+        let follow = (self.bytes.len() - UNCOUNTED) as u32;
+        self.bytes[..UNCOUNTED].copy_from_slice(&follow.to_be_bytes());
+        self.bytes[UNCOUNTED] = VERSION;
+        self.bytes[TICKS].copy_from_slice(&self.ticks.to_be_bytes());
+        (self.bytes, self.ticks.into())
+    }
 }

@@ -1,7 +1,9 @@
 //! translate FILE: writes a module's tick stream. board STREAM FILE: plays one.
+use super::board::{self, Board};
 use super::input::{self, Source};
 use super::output::{self, counted, tell, write_bytes};
-use super::records::numbers;
+use super::progress::Progress;
+use super::records;
 use super::report::plain;
 use super::sound::{self, check_room, Sound};
 use super::stop::Stop;
@@ -43,9 +45,6 @@ Exit status: 0 accepted; 1 refused, and OUT is not written; 2 wrong use, or a fi
     run: run_board,
 };
 
-/// Numbers that are played in one call at most: 1 GiB, and more than any translation takes.
-const MOST_NUMBERS: u64 = 1 << 29;
-
 fn run_translate(words: &Words) -> Result<bool, Stop> {
     let Some(ticks) = words.number("--ticks")? else {
         return Err(Stop::Usage("no --ticks".into()));
@@ -71,7 +70,7 @@ pub fn translated(source: &Source, ticks: u32) -> Result<Vec<u8>, Stop> {
     if asked.number != ROOM_NEEDED {
         return Err(source.refused(asked));
     }
-    let mut room = zeros(asked.place, "the stream")?;
+    let mut room = vec![0; asked.place as usize];
     let answer = lampthistle::translate(&source.bytes, ticks, &mut room);
     if !answer.is_accepted() {
         return Err(source.refused(answer));
@@ -83,50 +82,26 @@ fn run_board(words: &Words) -> Result<bool, Stop> {
     let out = words.needed("--out")?;
     sound::format(out)?;
     let [stream, file] = input::read_all(words.files(["STREAM", "FILE"])?)?;
-    let (answer, frames) = board(&stream, &file)?;
-    let count = frames.len() as u64 / 2;
-    check_room(out, count, |_| Ok(count))?;
+    let judged = board::judge(&stream, &file)?;
+    let (ticks, frames) = (
+        records::ticks(&stream.bytes),
+        records::frames(&stream.bytes),
+    );
+    check_room(out, frames, |_| Ok(frames))?;
     let mut sound = Sound::create(out, &[&stream, &file])?;
-    sound.write(&frames)?;
+    let mut board = Board::new(&stream.bytes, &file.bytes);
+    let (mut count, mut progress) = (0, Progress::new());
+    while let Some(numbers) = board.next()? {
+        sound.write(numbers)?;
+        count += 1;
+        progress.show("ticks", count, ticks);
+    }
+    drop(progress);
     sound.finish()?;
     let text = if words.plain {
-        plain(&answer)
+        plain(&Answer { count, ..judged })
     } else {
-        output::played(&stream.name, answer.count, frames.len() as u64 / 2)
+        output::played(&stream.name, count, frames)
     };
     tell(words, &text).map(|()| true)
-}
-
-/// Plays a whole stream: the answer and the numbers.
-///
-/// The call always begins at the stream's first tick with stopped voices, so the ticks cannot be played in pieces: the buffer takes
-/// all of them, and its size comes from a pass over the records' tempos.
-pub fn board(stream: &Source, file: &Source) -> Result<(Answer, Vec<i16>), Stop> {
-    // Refusals below 10 are the module's.
-    let accepted = |answer: Answer| match answer.number {
-        0 => Ok(answer),
-        1..10 => Err(file.refused(answer)),
-        _ => Err(stream.refused(answer)),
-    };
-    let judged = lampthistle::play_stream(&stream.bytes, &file.bytes, &mut []);
-    let _ = accepted(judged)?;
-    let mut frames = zeros(numbers(&stream.bytes), "the sound")?;
-    let answer = lampthistle::play_stream(&stream.bytes, &file.bytes, &mut frames);
-    accepted(answer).map(|answer| (answer, frames))
-}
-
-fn zeros<T: Copy + Default>(length: u64, what: &str) -> Result<Vec<T>, Stop> {
-    let mut cells = Vec::new();
-    let too_large = || {
-        Stop::Cannot(format!(
-            "{what} is too large for the memory: {length} numbers"
-        ))
-    };
-    if length > MOST_NUMBERS {
-        return Err(too_large());
-    }
-    let got = cells.try_reserve_exact(length as usize);
-    got.map_err(|_| too_large())?;
-    cells.resize(length as usize, T::default());
-    Ok(cells)
 }

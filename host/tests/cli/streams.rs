@@ -1,5 +1,7 @@
 //! What the commands for tick streams print and write.
-use crate::common::{own, stored, told};
+use crate::common::{own, said, stored, told};
+use std::os::unix::fs::symlink;
+use std::process::Command;
 
 fn translated(module: &str, ticks: &str, name: &str) -> String {
     let stream = own(name).to_str().unwrap().to_string();
@@ -58,28 +60,49 @@ fn too_many_ticks_are_refused() {
     assert!(!own("too_many.stream").exists());
 }
 
-#[test]
-fn a_stream_too_large_for_the_memory_is_an_error() {
-    // A million records at tempo 32 take 30 GB of sound.
-    const RECORDS: u32 = 1_000_000;
-    let mut bytes = (2 * RECORDS + 5).to_be_bytes().to_vec();
+/// A stream of silent ticks at tempo 32, 15,000 bytes of sound each.
+fn silence(name: &str, ticks: u32) -> String {
+    let mut bytes = (2 * ticks + 5).to_be_bytes().to_vec();
     bytes.push(1);
-    bytes.extend_from_slice(&RECORDS.to_be_bytes());
-    for _ in 0..RECORDS {
-        bytes.extend_from_slice(&[0, 32]);
-    }
-    let stream = own("large.stream");
+    bytes.extend_from_slice(&ticks.to_be_bytes());
+    bytes.extend([0, 32].repeat(ticks as usize));
+    let stream = own(name);
     std::fs::write(&stream, bytes).unwrap();
-    let words = [
-        "board",
-        stream.to_str().unwrap(),
-        &stored("flow"),
-        "--out",
-        "large.raw",
-    ];
+    stream.to_str().unwrap().into()
+}
+
+#[test]
+fn the_board_plays_any_length() {
+    // 1.2 GB of sound, in an address space of 64 MB.
+    let stream = silence("large.stream", 80_000);
+    let null = own("null.raw");
+    let _ = std::fs::remove_file(&null);
+    symlink("/dev/null", &null).unwrap();
+    let script = "ulimit -v 65536; exec \"$0\" board --plain \"$1\" \"$2\" --out \"$3\"";
+    let output = Command::new("sh")
+        .args(["-c", script, env!("CARGO_BIN_EXE_lampthistle"), &stream])
+        .args([&stored("flow"), null.to_str().unwrap()])
+        .output()
+        .unwrap();
+    assert_eq!(said(output), (0, "0 0 80000\n".into(), String::new()));
+    let stream = silence("larger.stream", 300_000);
+    let words = ["board", &stream, &stored("flow"), "--out", "larger.wav"];
     let (status, out, err) = told(&words);
     assert_eq!((status, out.as_str()), (2, ""));
-    assert!(err.contains("too large for the memory"), "{err}");
+    assert!(err.contains("larger.wav: a .wav file holds"), "{err}");
+}
+
+#[test]
+fn pieces_join() {
+    // 470 frames a tick: a piece has 8,925 ticks.
+    for name in ["effects", "flow", "edges"] {
+        let (status, out, err) = told(&["compare", &stored(name), "--ticks", "30000", "--plain"]);
+        assert_eq!(
+            (status, out.as_str(), err.as_str()),
+            (0, "0 0 30000\n", ""),
+            "{name}"
+        );
+    }
 }
 
 #[test]

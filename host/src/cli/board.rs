@@ -1,0 +1,136 @@
+//! The sound board's play of an accepted stream, in pieces.
+//!
+//! The library's call begins at a stream's first tick with stopped voices, and cannot be resumed. But a voice follows from its channel's
+//! commands since its last start alone. So a piece is played as a stream of its own, which begins at the oldest of the channels' last
+//! starts; the frames of this run-up are left out. docs/DECISIONS.md says what this costs.
+use super::input::Source;
+use super::records::{self, Records, CHANNELS};
+use super::stop::Stop;
+use lampthistle::{tick_frames, Answer};
+
+/// Numbers of a piece, about 90 seconds of sound; more where the run-up is longer, so that not all time goes into run-ups.
+const PIECE_NUMBERS: usize = 1 << 23;
+
+/// What the library says of a stream and its module; refusals below 10 are the module's.
+pub fn judge(stream: &Source, file: &Source) -> Result<Answer, Stop> {
+    let answer = lampthistle::play_stream(&stream.bytes, &file.bytes, &mut []);
+    match answer.number {
+        0 => Ok(answer),
+        1..10 => Err(file.refused(answer)),
+        _ => Err(stream.refused(answer)),
+    }
+}
+
+/// Where a channel's last start is: its tick, and the records from it on.
+type Start<'a> = (u64, Records<'a>);
+
+/// An accepted stream that is being played.
+pub struct Board<'a> {
+    file: &'a [u8],
+    /// The next tick, and the records from it on.
+    tick: u64,
+    ahead: Records<'a>,
+    started: [Option<Start<'a>>; CHANNELS],
+    numbers: Vec<i16>,
+    /// The numbers of the piece's ticks that are still to be given, from this one on.
+    at: usize,
+    lengths: std::vec::IntoIter<usize>,
+}
+
+impl<'a> Board<'a> {
+    pub fn new(stream: &'a [u8], file: &'a [u8]) -> Board<'a> {
+        Board {
+            file,
+            tick: 0,
+            ahead: records::records(stream),
+            started: [const { None }; CHANNELS],
+            numbers: Vec::new(),
+            at: 0,
+            lengths: Vec::new().into_iter(),
+        }
+    }
+
+    /// The next tick's numbers; none after the last.
+    pub fn next(&mut self) -> Result<Option<&[i16]>, Stop> {
+        if self.lengths.len() == 0 {
+            self.play_piece()?;
+        }
+        let Some(length) = self.lengths.next() else {
+            return Ok(None);
+        };
+        let from = self.at;
+        self.at += length;
+        Ok(Some(&self.numbers[from..self.at]))
+    }
+
+    fn play_piece(&mut self) -> Result<(), Stop> {
+        let mut piece = records::Writer::new();
+        let run_up = self.write_run_up(&mut piece);
+        let lengths = self.write_ticks(&mut piece, run_up.max(PIECE_NUMBERS));
+        let all = run_up + lengths.iter().sum::<usize>();
+        reserve(&mut self.numbers, all)?;
+        let (stream, ticks) = piece.finish();
+        let answer = lampthistle::play_stream(&stream, self.file, &mut self.numbers);
+        if !answer.is_accepted() || answer.count != ticks {
+            let tick = self.tick;
+            return Err(Stop::Cannot(format!(
+                "the piece of the stream before tick {tick} was played as {answer}, {} of {ticks} ticks",
+                answer.count
+            )));
+        }
+        self.at = run_up;
+        self.lengths = lengths.into_iter();
+        Ok(())
+    }
+
+    /// Writes the ticks that lead to the next one, with each channel's commands from its last start on; gives their numbers.
+    fn write_run_up(&self, piece: &mut records::Writer) -> usize {
+        let starts = || self.started.iter().flatten();
+        let Some((first, from)) = starts().min_by_key(|(tick, _)| *tick) else {
+            return 0;
+        };
+        let mut numbers = 0;
+        for (tick, mut record) in (*first..self.tick).zip(from.clone()) {
+            for (command, start) in record.commands.iter_mut().zip(&self.started) {
+                let begun = start.as_ref().is_some_and(|(begin, _)| *begin <= tick);
+                *command = command.filter(|_| begun);
+            }
+            numbers += 2 * tick_frames(record.tempo);
+            piece.write(&record);
+        }
+        numbers
+    }
+
+    /// Writes the next ticks until they have so many numbers; gives the numbers of each.
+    fn write_ticks(&mut self, piece: &mut records::Writer, most: usize) -> Vec<usize> {
+        let (mut lengths, mut numbers) = (Vec::new(), 0);
+        while numbers < most {
+            let from = self.ahead.clone();
+            let Some(record) = self.ahead.next() else {
+                break;
+            };
+            for (command, start) in record.commands.iter().zip(&mut self.started) {
+                if command.is_some_and(|command| command.start) {
+                    *start = Some((self.tick, from.clone()));
+                }
+            }
+            piece.write(&record);
+            self.tick += 1;
+            lengths.push(2 * tick_frames(record.tempo));
+            numbers += 2 * tick_frames(record.tempo);
+        }
+        lengths
+    }
+}
+
+/// Makes room for so many numbers, as far as the memory goes.
+fn reserve(numbers: &mut Vec<i16>, all: usize) -> Result<(), Stop> {
+    numbers.truncate(0);
+    if numbers.try_reserve_exact(all).is_err() {
+        return Err(Stop::Cannot(format!(
+            "no memory for {all} numbers, the sound since the oldest note that is held"
+        )));
+    }
+    numbers.resize(all, 0);
+    Ok(())
+}
