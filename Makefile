@@ -69,7 +69,8 @@ c-test: demo
 	    $(CC) -std=c99 $(C_WARNINGS) -Iout examples/$$part.c out/liblampthistle.a -o out/$$part || exit 1; \
 	done
 	out/panel out/demo.mod out/panel.raw
-	$(PLAY) replay out/demo.mod examples/trial.txt --plain --out out/trial.raw >out/trial.txt; test $$? -eq 1
+	$(PLAY) replay out/demo.mod examples/trial.txt --plain --out out/trial.raw --record out/trial.record
+	$(PLAY) replay out/demo.mod out/trial.record --check
 	cmp -n $$(stat -c %s out/panel.raw) out/panel.raw out/trial.raw
 	out/board out/demo.stream out/demo.mod out/board.raw
 	$(PLAY) play out/demo.mod --ticks $(DEMO_TICKS) --out out/demo.raw

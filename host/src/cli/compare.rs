@@ -15,6 +15,7 @@ use lampthistle::{Answer, TICK_NUMBERS};
 pub const COMMAND: Command = Command {
     name: "compare",
     options: &["--ticks"],
+    flags: &[],
     help: "\
 lampthistle compare FILE [--ticks N] [--plain]
 

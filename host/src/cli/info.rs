@@ -9,6 +9,7 @@ use super::{input, Command};
 pub const COMMAND: Command = Command {
     name: "info",
     options: &[],
+    flags: &[],
     help: "\
 lampthistle info [--plain] FILE
 

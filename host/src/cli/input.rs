@@ -44,6 +44,16 @@ pub fn shown(name: &OsStr) -> String {
     text.replace(|c: char| c.is_control(), "?")
 }
 
+/// What somebody wrote, for a message: not more of it than tells what it is.
+pub fn quoted(text: &OsStr) -> String {
+    const MOST: usize = 60;
+    let text = shown(text);
+    match text.char_indices().nth(MOST) {
+        Some((end, _)) => format!("{}..", &text[..end]),
+        None => text,
+    }
+}
+
 /// Reads the files; standard input, named -, at most once.
 pub fn read_all<const N: usize>(names: [&OsStr; N]) -> Result<[Source; N], Stop> {
     if names.iter().filter(|name| **name == "-").count() > 1 {

@@ -9,6 +9,7 @@ use lampthistle::Answer;
 pub const COMMAND: Command = Command {
     name: "judge",
     options: &[],
+    flags: &[],
     help: "\
 lampthistle judge [--plain] FILE..
 

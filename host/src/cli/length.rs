@@ -1,5 +1,5 @@
 //! How much of a song is asked for.
-use super::input::shown;
+use super::input::quoted;
 use super::progress::Progress;
 use super::stop::Stop;
 use super::words::Words;
@@ -58,7 +58,7 @@ fn seconds(text: &OsStr) -> Result<Length, Stop> {
     frames.map(Length::Frames).ok_or_else(|| {
         Stop::Usage(format!(
             "--seconds: not a number from 0 to {MOST_SECONDS}, such as 2.5: {}",
-            shown(text)
+            quoted(text)
         ))
     })
 }

@@ -1,5 +1,6 @@
 //! The commands, and how the program ends: 0 accepted; 1 refused or different; 2 wrong use, or a file that cannot be read or written.
 mod board;
+mod checksum;
 mod compare;
 mod info;
 mod input;
@@ -12,23 +13,26 @@ mod progress;
 mod records;
 mod replay;
 mod report;
+mod script;
 mod song;
 mod sound;
 mod stop;
 mod stream;
 mod target;
 mod trace;
+mod trial;
 mod words;
 
-use std::ffi::OsString;
+use std::ffi::{OsStr, OsString};
 use std::process::ExitCode;
 use stop::Stop;
 use words::Words;
 
-/// One command: its options that take a value, its help, and its work, which says whether all was accepted.
+/// One command: its options with and without a value, its help, and its work, which says whether all was accepted.
 struct Command {
     name: &'static str,
     options: &'static [&'static str],
+    flags: &'static [&'static str],
     help: &'static str,
     run: fn(&Words) -> Result<bool, Stop>,
 }
@@ -83,22 +87,28 @@ fn dispatch(words: &[OsString]) -> Result<bool, Stop> {
         return Err(Stop::Usage("no command\nTry: lampthistle --help".into()));
     };
     match first.to_str() {
+        Some("help") if words.len() > 1 => run_command(named(&words[1])?, &["--help".into()]),
         Some("--help" | "-h" | "help") => output::say(HELP).map(|()| true),
-        Some("--version") => {
+        Some("--version" | "-V") => {
             output::say(concat!("lampthistle ", env!("CARGO_PKG_VERSION"), "\n")).map(|()| true)
         }
-        name => match COMMANDS.iter().find(|c| Some(c.name) == name) {
-            Some(command) => run_command(command, &words[1..]),
-            None => Err(Stop::Usage(format!(
-                "no such command: {}\nTry: lampthistle --help",
-                input::shown(first)
-            ))),
-        },
+        _ => run_command(named(first)?, &words[1..]),
     }
 }
 
+/// The command of this name.
+fn named(name: &OsStr) -> Result<&'static Command, Stop> {
+    let command = COMMANDS.into_iter().find(|command| name == command.name);
+    command.ok_or_else(|| {
+        Stop::Usage(format!(
+            "no such command: {}\nTry: lampthistle --help",
+            input::quoted(name)
+        ))
+    })
+}
+
 fn run_command(command: &Command, words: &[OsString]) -> Result<bool, Stop> {
-    let asked = Words::parse(words, command.options).and_then(|words| {
+    let asked = Words::parse(words, command).and_then(|words| {
         if words.help {
             return output::say(command.help).map(|()| true);
         }

@@ -5,7 +5,7 @@ use super::target::Target;
 use super::words::Words;
 use lampthistle::RATE;
 use std::ffi::OsStr;
-use std::io::{self, Write};
+use std::io::{self, IsTerminal, Write};
 
 /// Text to standard output, at once.
 pub fn say(text: &str) -> Result<(), Stop> {
@@ -17,12 +17,22 @@ pub fn say(text: &str) -> Result<(), Stop> {
 
 /// Text about a command's work: to standard error where the result itself goes to standard output.
 pub fn tell(words: &Words, text: &str) -> Result<(), Stop> {
-    if words.value("--out").is_none_or(|out| out != "-") {
+    if !words.result_to_stdout() {
         return say(text);
     }
     io::stderr()
         .write_all(text.as_bytes())
         .map_err(|e| Stop::Io("standard error".into(), e))
+}
+
+/// Stops where bytes that are no text would go to a terminal.
+pub fn check_terminal(out: &OsStr) -> Result<(), Stop> {
+    if out == "-" && io::stdout().is_terminal() {
+        return Err(Stop::Usage(
+            "--out -: standard output is a terminal; name a file, or pipe it to a program".into(),
+        ));
+    }
+    Ok(())
 }
 
 /// A count with its unit: 1 tick, 2 ticks.

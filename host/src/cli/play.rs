@@ -14,6 +14,7 @@ use lampthistle::Answer;
 pub const COMMAND: Command = Command {
     name: "play",
     options: &["--ticks", "--seconds", "--out"],
+    flags: &[],
     help: "\
 lampthistle play FILE [--ticks N | --seconds S] --out OUT [--plain]
 

@@ -1,204 +1,194 @@
-//! replay FILE SCRIPT: a trial record run again.
+//! replay FILE SCRIPT: runs a trial again, records it, or checks its record.
 use super::input::{self, Source};
-use super::output;
-use super::progress::Progress;
-use super::song::Song;
+use super::output::{self, counted, write_bytes};
+use super::report::plain;
+use super::script::{self, Call, Results, Script};
 use super::sound::{self, check_room, Sound};
 use super::stop::Stop;
+use super::trial::Trial;
 use super::words::Words;
 use super::Command;
-use lampthistle::{Answer, TICK_NUMBERS};
-use std::ffi::OsStr;
-use std::fmt;
+use lampthistle::{Answer, State, TICK_NUMBERS};
 
 pub const COMMAND: Command = Command {
     name: "replay",
-    options: &["--out"],
+    options: &["--out", "--record"],
+    flags: &["--check"],
     help: "\
-lampthistle replay FILE SCRIPT [--out OUT] [--plain]
+lampthistle replay FILE SCRIPT [--out OUT] [--record RECORD | --check] [--plain]
 
-Runs a trial record again, from a fresh state. A line of SCRIPT is one call:
+Runs a trial again, from a fresh state. A line of SCRIPT is one call:
   play N                     plays N ticks
   touch PAGE MADE POSITION   a touch made on PAGE at clock MADE for a song position
   page                       a page change
-Empty lines and lines that begin with # are left out. Prints each call's answer, and the clock, page and place after it; the frames go
-to OUT, as in play. A refused call changes nothing, and the record goes on.
---plain prints NUMBER PLACE COUNT CLOCK PAGE POSITION ROW TICK a call.
+# begins a comment. Prints each call's answer, and the clock, page and place after it; the frames go to OUT, as in play. A refused touch
+changes nothing, and the trial goes on: a trial that ran ends with 0.
+--record writes the script again to RECORD, with the module's checksum, and for each call its answer, the clock and a checksum of the
+frames so far (docs/FORMATS.md). A record is a script, too.
+--check plays a record, and says that every answer and checksum came again, or which line differs first and how.
+--plain prints NUMBER PLACE COUNT CLOCK PAGE POSITION ROW TICK a call; with --check NUMBER PLACE COUNT, the count in calls.
 
-Example:
-  lampthistle replay song.mod trial.txt --out trial.wav
+Examples:
+  lampthistle replay song.mod trial.txt --record trial.record
+  lampthistle replay song.mod trial.record --check
+  trial.record: 14 calls, 214 ticks: every answer and checksum came again
 
-Exit status: 0 all accepted; 1 one refused; 2 wrong use, a bad line, or a file that cannot be read or written.
+Exit status: 0 it ran, and with --check came again; 1 the module is refused, or the record differs; 2 wrong use, a bad line, or a file
+that cannot be read or written.
 ",
     run,
 };
 
-/// One line of a trial record.
-#[derive(Clone, Copy)]
-enum Call {
-    Play(u32),
-    Touch { page: u32, made: u32, position: u32 },
-    Page,
-}
-
-impl fmt::Display for Call {
-    fn fmt(&self, f: &mut fmt::Formatter) -> fmt::Result {
-        match self {
-            Call::Play(ticks) => write!(f, "play {ticks}"),
-            Call::Touch {
-                page,
-                made,
-                position,
-            } => write!(f, "touch {page} {made} {position}"),
-            Call::Page => f.write_str("page"),
-        }
-    }
-}
-
 fn run(words: &Words) -> Result<bool, Stop> {
-    let out = words.value("--out");
+    let (out, record) = (words.value("--out"), words.value("--record"));
     out.map(sound::format).transpose()?;
-    let [source, script] = input::read_all(words.files(["FILE", "SCRIPT"])?)?;
-    let calls = calls(&script)?;
+    let wrong = match record {
+        Some(_) if words.has("--check") => Some("--check and --record exclude each other"),
+        Some(name) if name == "-" && out == record => Some("--out and --record are both -"),
+        _ => None,
+    };
+    if let Some(what) = wrong {
+        return Err(Stop::Usage(what.into()));
+    }
+    let [source, text] = input::read_all(words.files(["FILE", "SCRIPT"])?)?;
+    let lines = String::from_utf8_lossy(&text.bytes);
+    let script = script::parse(&text.name, &lines)?;
     let _ = source.judge()?;
-    let mut sound = match out {
+    let sound = match out {
         Some(name) => {
-            check_room(name, most(&calls), |room| frames_of(&source, &calls, room))?;
-            Some(Sound::create(name, &[&source, &script])?)
+            check_room(name, most(&script), |room| {
+                frames_of(&source, &script, room)
+            })?;
+            Some(Sound::create(name, &[&source, &text])?)
         }
         None => None,
     };
-    let mut song = Song::new(&source.bytes);
-    let mut all = true;
-    for call in &calls {
-        let answer = run_call(&mut song, call, |numbers| match &mut sound {
-            Some(sound) => sound.write(numbers).map(|()| true),
-            None => Ok(true),
-        })?;
-        all &= answer.is_accepted();
-        tell(words, call, &answer, &song)?;
+    let mut trial = Trial::new(&source.bytes, sound);
+    if words.has("--check") {
+        let text = match check(&mut trial, &source, &script, &text.name)? {
+            Some(what) => {
+                Stop::Cannot(format!("{}:{what}", text.name)).tell();
+                return Ok(false);
+            }
+            None => checked(words, &text.name, &script),
+        };
+        trial.finish()?;
+        return output::tell(words, &text).map(|()| true);
     }
-    sound.map_or(Ok(()), Sound::finish)?;
-    Ok(all)
+    let recorded = replay(words, &mut trial, &source, &script)?;
+    trial.finish()?;
+    if let Some(name) = record {
+        write_bytes(name, &[&source, &text], recorded.as_bytes())?;
+    }
+    Ok(true)
 }
 
 /// The frames at most of all calls.
-fn most(calls: &[Call]) -> u64 {
-    let ticks = calls.iter().map(|call| match call {
+fn most(script: &Script) -> u64 {
+    ticks(script) * (TICK_NUMBERS / 2) as u64
+}
+
+fn ticks(script: &Script) -> u64 {
+    let ticks = script.calls().map(|call| match call {
         Call::Play(ticks) => u64::from(*ticks),
         _ => 0,
     });
-    ticks.sum::<u64>() * (TICK_NUMBERS / 2) as u64
+    ticks.sum()
 }
 
 /// The frames of all calls, counted until they are more than `limit`.
-fn frames_of(source: &Source, calls: &[Call], limit: u64) -> Result<u64, Stop> {
-    let mut song = Song::silent(&source.bytes);
-    let mut frames = 0;
-    for call in calls {
-        let _ = run_call(&mut song, call, |numbers| {
-            frames += numbers.len() as u64 / 2;
-            Ok(frames <= limit)
-        })?;
+fn frames_of(source: &Source, script: &Script, limit: u64) -> Result<u64, Stop> {
+    let mut trial = Trial::silent(&source.bytes, limit);
+    for call in script.calls() {
+        trial.call(call)?;
     }
-    Ok(frames)
+    Ok(trial.frames())
 }
 
-/// Runs a call; each tick's numbers go to `heard`, which says whether to go on.
-fn run_call(
-    song: &mut Song,
-    call: &Call,
-    heard: impl FnMut(&[i16]) -> Result<bool, Stop>,
-) -> Result<Answer, Stop> {
-    match *call {
-        Call::Play(ticks) => play(song, ticks, heard),
-        Call::Touch {
-            page,
-            made,
-            position,
-        } => Ok(song.touch(page, made, position)),
-        Call::Page => Ok(song.change_page()),
+/// Runs all calls and tells of each; gives the record.
+fn replay(
+    words: &Words,
+    trial: &mut Trial,
+    source: &Source,
+    script: &Script,
+) -> Result<String, Stop> {
+    let mut recorded = script::header(&source.bytes);
+    for line in &script.lines {
+        let results = match &line.call {
+            Some((call, _)) => {
+                let results = trial.call(call)?;
+                output::tell(words, &told(words, call, &results, trial.state()))?;
+                Some(results)
+            }
+            None => None,
+        };
+        recorded += &line.recorded(results.as_ref());
     }
+    Ok(recorded)
 }
 
-/// All calls of a record, so that a bad line is found before anything is played.
-fn calls(script: &Source) -> Result<Vec<Call>, Stop> {
-    let text = String::from_utf8_lossy(&script.bytes);
-    let lines = text.lines().map(str::trim).enumerate();
-    lines
-        .filter(|(_, line)| !line.is_empty() && !line.starts_with('#'))
-        .map(|(k, line)| {
-            call(line).ok_or_else(|| {
-                let (name, line) = (&script.name, input::shown(OsStr::new(line)));
-                Stop::Cannot(format!(
-                    "{name}:{}: not play N, touch PAGE MADE POSITION or page: {line}",
-                    k + 1
-                ))
-            })
-        })
-        .collect()
-}
-
-fn call(line: &str) -> Option<Call> {
-    let mut words = line.split_whitespace();
-    let name = words.next()?;
-    let numbers: Option<Vec<u32>> = words.map(|word| word.parse().ok()).collect();
-    match (name, numbers?.as_slice()) {
-        ("play", &[ticks]) => Some(Call::Play(ticks)),
-        ("touch", &[page, made, position]) => Some(Call::Touch {
-            page,
-            made,
-            position,
-        }),
-        ("page", []) => Some(Call::Page),
-        _ => None,
-    }
-}
-
-/// Plays tick by tick, and answers as one call for all of them does.
-fn play(
-    song: &mut Song,
-    ticks: u32,
-    mut heard: impl FnMut(&[i16]) -> Result<bool, Stop>,
-) -> Result<Answer, Stop> {
-    let mut progress = Progress::new();
-    let mut answer = Answer {
-        number: 0,
-        place: 0,
-        count: 0,
+/// Runs a record's calls; the first line that differs, and how.
+fn check(
+    trial: &mut Trial,
+    source: &Source,
+    script: &Script,
+    name: &str,
+) -> Result<Option<String>, Stop> {
+    let no_record = |what: &str| Stop::Cannot(format!("{name}{what}"));
+    let Some((number, recorded)) = script.module else {
+        return Err(no_record(": not a record: it names no module"));
     };
-    while answer.count < u64::from(ticks) {
-        match song.next(TICK_NUMBERS) {
-            Ok(Some(numbers)) if heard(numbers)? => answer.count += 1,
-            Ok(_) => break,
-            Err(refusal) => return Ok(refusal),
-        }
-        progress.show("ticks", answer.count, ticks.into());
+    let own = script::module_sum(&source.bytes);
+    if own != recorded {
+        return Ok(Some(format!("{number}: module {own}, recorded {recorded}")));
     }
-    Ok(answer)
+    for line in &script.lines {
+        let Some((call, recorded)) = &line.call else {
+            continue;
+        };
+        let number = line.number;
+        let Some(recorded) = recorded else {
+            return Err(no_record(&format!(":{number}: {call}: has no results")));
+        };
+        let results = trial.call(call)?;
+        if let Some(what) = results.difference(recorded) {
+            return Ok(Some(format!("{number}: {call}: {what}")));
+        }
+    }
+    Ok(None)
 }
 
-fn tell(words: &Words, call: &Call, answer: &Answer, song: &Song) -> Result<(), Stop> {
-    let state = &song.state;
+fn checked(words: &Words, name: &str, script: &Script) -> String {
+    let calls = script.calls().count() as u64;
+    if words.plain {
+        return plain(&Answer {
+            number: 0,
+            place: 0,
+            count: calls,
+        });
+    }
+    let (calls, ticks) = (counted(calls, "call"), counted(ticks(script), "tick"));
+    format!("{name}: {calls}, {ticks}: every answer and checksum came again\n")
+}
+
+/// A call's line.
+fn told(words: &Words, call: &Call, results: &Results, state: &State) -> String {
+    let answer = &results.answer;
     let (clock, page) = (state.clock(), state.page());
     let (position, row, tick) = (state.position(), state.row(), state.tick());
-    let text = if words.plain {
+    if words.plain {
         let Answer {
             number,
             place,
             count,
         } = answer;
-        format!("{number} {place} {count} {clock} {page} {position} {row} {tick}\n")
-    } else {
-        let counted = match call {
-            Call::Play(_) if answer.is_accepted() => {
-                format!(", {}", output::counted(answer.count, "tick"))
-            }
-            _ => String::new(),
-        };
-        format!(
-            "{call}: {answer}{counted}; clock {clock}, page {page}, position {position}, row {row}, tick {tick}\n"
-        )
+        return format!("{number} {place} {count} {clock} {page} {position} {row} {tick}\n");
+    }
+    let played = match call {
+        Call::Play(_) if answer.is_accepted() => format!(", {}", counted(answer.count, "tick")),
+        _ => String::new(),
     };
-    output::tell(words, &text)
+    format!(
+        "{call}: {answer}{played}; clock {clock}, page {page}, position {position}, row {row}, tick {tick}\n"
+    )
 }

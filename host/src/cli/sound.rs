@@ -1,5 +1,6 @@
 //! Sound files that are written: .wav, or bare numbers.
 use super::input::{shown, Source};
+use super::output::check_terminal;
 use super::stop::Stop;
 use super::target::Target;
 use lampthistle::RATE;
@@ -40,6 +41,7 @@ impl Format {
 
 /// The format of a sound file to write: by its ending, and raw for standard output.
 pub fn format(name: &OsStr) -> Result<Format, Stop> {
+    check_terminal(name)?;
     let raw = (name == "-").then_some(Format::Raw);
     Format::of(name).or(raw).ok_or_else(|| {
         Stop::Usage(format!(

@@ -1,7 +1,7 @@
 //! translate FILE: writes a module's tick stream. board STREAM FILE: plays one.
 use super::board::{self, Board};
 use super::input::{self, Source};
-use super::output::{self, counted, tell, write_bytes};
+use super::output::{self, check_terminal, counted, tell, write_bytes};
 use super::progress::Progress;
 use super::records;
 use super::report::plain;
@@ -14,6 +14,7 @@ use lampthistle::Answer;
 pub const TRANSLATE: Command = Command {
     name: "translate",
     options: &["--ticks", "--out"],
+    flags: &[],
     help: "\
 lampthistle translate FILE --ticks N --out OUT [--plain]
 
@@ -31,6 +32,7 @@ Exit status: 0 accepted; 1 refused, and OUT is not written; 2 wrong use, or a fi
 pub const BOARD: Command = Command {
     name: "board",
     options: &["--out"],
+    flags: &[],
     help: "\
 lampthistle board STREAM FILE --out OUT [--plain]
 
@@ -50,6 +52,7 @@ fn run_translate(words: &Words) -> Result<bool, Stop> {
         return Err(Stop::Usage("no --ticks".into()));
     };
     let out = words.needed("--out")?;
+    check_terminal(out)?;
     let [source] = input::read_all(words.files(["FILE"])?)?;
     let stream = translated(&source, ticks)?;
     write_bytes(out, &[&source], &stream)?;

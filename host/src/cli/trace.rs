@@ -11,6 +11,7 @@ use lampthistle::Answer;
 pub const COMMAND: Command = Command {
     name: "trace",
     options: &["--ticks"],
+    flags: &[],
     help: "\
 lampthistle trace FILE [--ticks N] [--plain]
 

@@ -1,51 +1,90 @@
-//! The words of a command line: files, options with values, --plain and --help.
-use super::input::shown;
+//! The words of a command line: files, options with and without a value.
+use super::input::quoted;
 use super::stop::Stop;
+use super::Command;
 use std::ffi::{OsStr, OsString};
+use std::os::unix::ffi::OsStrExt;
 
 pub struct Words {
     pub plain: bool,
     pub help: bool,
     pub files: Vec<OsString>,
+    flags: Vec<&'static str>,
     values: Vec<(&'static str, OsString)>,
 }
 
+/// Options of every command.
+const PLAIN: &str = "--plain";
+const HELP: &str = "--help";
+/// Short names of options.
+const SHORT: [(&str, &str); 2] = [("-h", HELP), ("-o", "--out")];
+
 impl Words {
-    /// Sorts the words; `options` are those that take a value. After -- every word is a file.
-    pub fn parse(words: &[OsString], options: &[&'static str]) -> Result<Words, Stop> {
+    /// Sorts the words of a command. After -- every word is a file.
+    pub fn parse(words: &[OsString], command: &Command) -> Result<Words, Stop> {
         let mut sorted = Words {
             plain: false,
             help: false,
             files: Vec::new(),
+            flags: Vec::new(),
             values: Vec::new(),
         };
         let mut rest = words.iter();
         while let Some(word) = rest.next() {
-            match word.to_str() {
-                Some("--") => sorted.files.extend(rest.by_ref().cloned()),
-                Some("--plain") => sorted.plain = true,
-                Some("--help" | "-h") => sorted.help = true,
-                _ if word == "-" || !word.as_encoded_bytes().starts_with(b"-") => {
-                    sorted.files.push(word.clone())
-                }
-                _ => match options.iter().find(|option| word == **option) {
-                    Some(option) => sorted.add(option, rest.next())?,
-                    None => return Err(Stop::Usage(format!("no such option: {}", shown(word)))),
-                },
+            if word == "--" {
+                sorted.files.extend(rest.by_ref().cloned());
+            } else if word == "-" || !word.as_bytes().starts_with(b"-") {
+                sorted.files.push(word.clone());
+            } else {
+                sorted.option(word, &mut rest, command)?;
             }
         }
+        sorted.plain = sorted.has(PLAIN);
+        sorted.help = sorted.has(HELP);
         Ok(sorted)
     }
 
-    fn add(&mut self, option: &'static str, value: Option<&OsString>) -> Result<(), Stop> {
+    /// Takes an option; its value is after = or the next word.
+    fn option<'a>(
+        &mut self,
+        word: &'a OsStr,
+        rest: &mut impl Iterator<Item = &'a OsString>,
+        command: &Command,
+    ) -> Result<(), Stop> {
+        let bytes = word.as_bytes();
+        let equals = bytes.iter().position(|&byte| byte == b'=');
+        let given = OsStr::from_bytes(&bytes[..equals.unwrap_or(bytes.len())]);
+        let value = equals.map(|at| OsStr::from_bytes(&bytes[at + 1..]));
+        let short = SHORT.iter().find(|(short, _)| given == *short);
+        let name = short.map_or(given, |(_, long)| OsStr::new(long));
+        let named = |options: &[&'static str]| options.iter().copied().find(|o| name == *o);
+        if let Some(flag) = named(&[PLAIN, HELP]).or_else(|| named(command.flags)) {
+            if value.is_some() {
+                return Err(Stop::Usage(format!("{flag} takes no value")));
+            }
+            self.flags.push(flag);
+            return Ok(());
+        }
+        match named(command.options) {
+            Some(option) => self.add(option, value.or_else(|| rest.next().map(|word| &**word))),
+            None => Err(Stop::Usage(format!("no such option: {}", quoted(given)))),
+        }
+    }
+
+    fn add(&mut self, option: &'static str, value: Option<&OsStr>) -> Result<(), Stop> {
         let Some(value) = value else {
             return Err(Stop::Usage(format!("{option} needs a value")));
         };
         if self.value(option).is_some() {
             return Err(Stop::Usage(format!("{option} is given twice")));
         }
-        self.values.push((option, value.clone()));
+        self.values.push((option, value.into()));
         Ok(())
+    }
+
+    /// Whether an option without a value is given.
+    pub fn has(&self, flag: &str) -> bool {
+        self.flags.contains(&flag)
     }
 
     pub fn value(&self, option: &str) -> Option<&OsStr> {
@@ -69,7 +108,7 @@ impl Words {
             None => Err(Stop::Usage(format!(
                 "{option}: not a number from 0 to {}: {}",
                 u32::MAX,
-                shown(value)
+                quoted(value)
             ))),
         }
     }
@@ -80,8 +119,15 @@ impl Words {
             return Err(Stop::Usage(format!("no {missing}")));
         }
         if let Some(extra) = self.files.get(N) {
-            return Err(Stop::Usage(format!("one word too many: {}", shown(extra))));
+            return Err(Stop::Usage(format!("one word too many: {}", quoted(extra))));
         }
         Ok(std::array::from_fn(|k| self.files[k].as_os_str()))
+    }
+
+    /// Whether the command's result goes to standard output.
+    pub fn result_to_stdout(&self) -> bool {
+        ["--out", "--record"]
+            .map(|option| self.value(option))
+            .contains(&Some(OsStr::new("-")))
     }
 }

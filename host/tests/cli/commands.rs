@@ -65,41 +65,6 @@ fn play_by_seconds_takes_whole_ticks() {
 }
 
 #[test]
-fn replay_answers_each_call() {
-    let script = own("replay.txt");
-    let lines = "# a trial\nplay 5\n\ntouch 0 3 1\n page \ntouch 0 5 1\ntouch 1 5 3\nplay 0\n";
-    std::fs::write(&script, lines).unwrap();
-    let words = [
-        "replay",
-        "--plain",
-        &stored("flow"),
-        script.to_str().unwrap(),
-    ];
-    let (status, out, _) = told(&words);
-    let answers = "0 0 5 5 0 0 1 2\n0 0 0 5 0 1 0 0\n0 0 0 5 1 1 0 0\n16 0 0 5 1 1 0 0\n18 0 0 5 1 1 0 0\n0 0 0 5 1 1 0 0\n";
-    assert_eq!((status, out.as_str()), (1, answers));
-}
-
-#[test]
-fn replay_names_a_bad_line() {
-    let script = own("bad_line.txt");
-    for line in [
-        "play",
-        "play -1",
-        "play 4294967296",
-        "touch 1 2",
-        "pages",
-        "page 1",
-    ] {
-        std::fs::write(&script, format!("play 1\n{line}\n")).unwrap();
-        let words = ["replay", &stored("flow"), script.to_str().unwrap()];
-        let (status, out, err) = told(&words);
-        assert_eq!((status, out.as_str()), (2, ""), "{line}");
-        assert!(err.contains("bad_line.txt:2: "), "{err}");
-    }
-}
-
-#[test]
 fn every_command_has_help_with_an_example() {
     let commands = [
         "judge",
@@ -123,4 +88,29 @@ fn every_command_has_help_with_an_example() {
             "{command}"
         );
     }
+}
+
+#[test]
+fn options_have_other_forms() {
+    let module = stored("effects");
+    for (k, out) in [
+        &["-o", "form.raw"][..],
+        &["--out=form.raw"],
+        &["-o=form.raw"],
+    ]
+    .into_iter()
+    .enumerate()
+    {
+        let ticks = k + 1;
+        let _ = std::fs::remove_file(own("form.raw"));
+        let ticks_word = format!("--ticks={ticks}");
+        let words = [&["play", &module, &ticks_word][..], out].concat();
+        assert_eq!(told(&words).0, 0, "{out:?}");
+        assert_eq!(
+            std::fs::read(own("form.raw")).unwrap().len(),
+            ticks * 470 * 4
+        );
+    }
+    assert_eq!(told(&["-V"]), told(&["--version"]));
+    assert_eq!(told(&["help", "play"]), told(&["play", "--help"]));
 }

@@ -5,3 +5,4 @@ mod outputs;
 mod robust;
 mod sounds;
 mod streams;
+mod trials;

@@ -1,5 +1,6 @@
 //! Where results and messages go.
-use crate::common::{own, stored, told};
+use crate::common::{own, said, stored, told};
+use std::process::{Command, Stdio};
 
 /// A stored module with another tag.
 fn refused(name: &str) -> String {
@@ -60,5 +61,23 @@ fn replay_judges_before_it_opens() {
             "{out}"
         );
         assert_eq!(std::fs::read(kept).unwrap(), b"kept");
+    }
+}
+
+#[test]
+fn sound_is_kept_from_a_terminal() {
+    let module = stored("flow");
+    for line in ["play M --out -", "translate M --ticks 9 --out -"] {
+        // script runs a command on a terminal of its own.
+        let line = line.replace('M', &format!("'{module}'"));
+        let line = format!("'{}' {line}", env!("CARGO_BIN_EXE_lampthistle"));
+        let output = Command::new("script")
+            .args(["-qec", &line, "/dev/null"])
+            .stdin(Stdio::null())
+            .output()
+            .unwrap();
+        let (status, out, _) = said(output);
+        assert_eq!(status, 2, "{out}");
+        assert!(out.contains("standard output is a terminal"), "{out}");
     }
 }

@@ -1,0 +1,99 @@
+//! A trial that is being run: calls on one state, and what is heard of them.
+use super::checksum::Checksum;
+use super::progress::Progress;
+use super::script::{Call, Results};
+use super::song::Song;
+use super::sound::Sound;
+use super::stop::Stop;
+use lampthistle::{Answer, State, TICK_NUMBERS};
+
+pub struct Trial<'a> {
+    song: Song<'a>,
+    sound: Option<Sound>,
+    heard: Checksum,
+    frames: u64,
+    /// Of a silent trial only frames are counted, and no tick is played after so many.
+    limit: Option<u64>,
+}
+
+impl<'a> Trial<'a> {
+    /// A trial of an accepted module; its frames go to the sound file, if there is one.
+    pub fn new(file: &'a [u8], sound: Option<Sound>) -> Trial<'a> {
+        Trial {
+            song: Song::new(file),
+            sound,
+            heard: Checksum::new(),
+            frames: 0,
+            limit: None,
+        }
+    }
+
+    /// The same trial without its sound, until it has more than so many frames.
+    pub fn silent(file: &[u8], limit: u64) -> Trial<'static> {
+        Trial {
+            song: Song::silent(file),
+            sound: None,
+            heard: Checksum::new(),
+            frames: 0,
+            limit: Some(limit),
+        }
+    }
+
+    pub fn state(&self) -> &State {
+        &self.song.state
+    }
+
+    pub fn frames(&self) -> u64 {
+        self.frames
+    }
+
+    /// Makes a call.
+    pub fn call(&mut self, call: &Call) -> Result<Results, Stop> {
+        let answer = match *call {
+            Call::Play(ticks) => self.play(ticks)?,
+            Call::Touch {
+                page,
+                made,
+                position,
+            } => self.song.touch(page, made, position),
+            Call::Page => self.song.change_page(),
+        };
+        Ok(Results {
+            answer,
+            clock: self.song.state.clock(),
+            sound: self.heard,
+        })
+    }
+
+    /// Plays tick by tick, and answers as one call for all of them does.
+    fn play(&mut self, ticks: u32) -> Result<Answer, Stop> {
+        let mut progress = Progress::new();
+        let mut answer = Answer {
+            number: 0,
+            place: 0,
+            count: 0,
+        };
+        let enough = |frames| self.limit.is_some_and(|limit| frames > limit);
+        while answer.count < u64::from(ticks) && !enough(self.frames) {
+            let numbers = match self.song.next(TICK_NUMBERS) {
+                Ok(numbers) => numbers.unwrap_or(&[]),
+                Err(refusal) => return Ok(refusal),
+            };
+            if let Some(sound) = &mut self.sound {
+                sound.write(numbers)?;
+            }
+            if self.limit.is_none() {
+                self.heard.add_numbers(numbers);
+            }
+            self.frames += numbers.len() as u64 / 2;
+            answer.count += 1;
+            progress.show("ticks", answer.count, ticks.into());
+        }
+        Ok(answer)
+    }
+
+    /// Finishes the sound file.
+    pub fn finish(self) -> Result<(), Stop> {
+        self.sound.map_or(Ok(()), Sound::finish)
+    }
+}

@@ -1,0 +1,196 @@
+//! Trials: scripts, and records that are checked.
+use crate::common::{own, stored, told};
+
+/// A file of this text in the tests' own folder.
+fn text(name: &str, text: &str) -> String {
+    let path = own(name);
+    std::fs::write(&path, text).unwrap();
+    path.to_str().unwrap().into()
+}
+
+/// The bytes' checksum by docs/FORMATS.md.
+fn checksum(bytes: &[u8]) -> String {
+    let step = |h: u64, &b: &u8| (h ^ u64::from(b)).wrapping_mul(0x100000001b3);
+    format!("{:016x}", bytes.iter().fold(0xcbf29ce484222325, step))
+}
+
+#[test]
+fn replay_answers_each_call() {
+    let script = own("replay.txt");
+    let lines = "# a trial\nplay 5\n\ntouch 0 3 1\n page \ntouch 0 5 1\ntouch 1 5 3\nplay 0\n";
+    std::fs::write(&script, lines).unwrap();
+    let words = [
+        "replay",
+        "--plain",
+        &stored("flow"),
+        script.to_str().unwrap(),
+    ];
+    let (status, out, _) = told(&words);
+    let answers = "0 0 5 5 0 0 1 2\n0 0 0 5 0 1 0 0\n0 0 0 5 1 1 0 0\n16 0 0 5 1 1 0 0\n18 0 0 5 1 1 0 0\n0 0 0 5 1 1 0 0\n";
+    assert_eq!((status, out.as_str()), (0, answers));
+}
+
+#[test]
+fn replay_names_a_bad_line() {
+    let script = own("bad_line.txt");
+    for line in [
+        "play",
+        "play -1",
+        "play 4294967296",
+        "touch 1 2",
+        "pages",
+        "page 1",
+    ] {
+        std::fs::write(&script, format!("play 1\n{line}\n")).unwrap();
+        let words = ["replay", &stored("flow"), script.to_str().unwrap()];
+        let (status, out, err) = told(&words);
+        assert_eq!((status, out.as_str()), (2, ""), "{line}");
+        assert!(err.contains("bad_line.txt:2: "), "{err}");
+    }
+}
+
+#[test]
+fn scripts_may_have_marks_and_comments() {
+    let script = "\u{FEFF}play 5 # five ticks\n  # nothing\npage#turned\n";
+    let script = text("marked.txt", script);
+    let (status, out, _) = told(&["replay", "--plain", &stored("flow"), &script]);
+    assert_eq!(
+        (status, out.as_str()),
+        (0, "0 0 5 5 0 0 1 2\n0 0 0 5 1 0 1 2\n")
+    );
+}
+
+#[test]
+fn a_wrong_script_is_not_echoed_whole() {
+    let script = text("flood.txt", &"x".repeat(2_000_000));
+    let (status, _, err) = told(&["replay", &stored("flow"), &script]);
+    assert_eq!(status, 2);
+    assert!(err.len() < 500 && err.ends_with("xxx..\n"), "{}", err.len());
+    let (_, _, err) = told(&["play", &"y".repeat(100_000), "z", "--out", "-"]);
+    assert!(err.contains("one word too many: z"), "{}", err.len());
+    let (_, _, err) = told(&[&"y".repeat(100_000)]);
+    assert!(err.len() < 500);
+}
+
+const SCRIPT: &str = "# a trial\nplay 5 # begins\n\ntouch 0 3 1\npage\ntouch 0 5 1\nplay 2\n";
+
+/// Records the script, and gives the record's name and text.
+fn recorded(name: &str) -> (String, String) {
+    let (script, record) = (text(&format!("{name}.txt"), SCRIPT), own(name));
+    let record = record.to_str().unwrap();
+    let (status, _, err) = told(&["replay", &stored("flow"), &script, "--record", record]);
+    assert_eq!((status, err.as_str()), (0, ""));
+    (record.into(), std::fs::read_to_string(record).unwrap())
+}
+
+#[test]
+fn a_record_holds_what_came_of_each_call() {
+    let (_, record) = recorded("whole.record");
+    let module = checksum(&std::fs::read(stored("flow")).unwrap());
+    let raw = own("whole.raw");
+    let sound = |ticks: &str| {
+        let words = [
+            "play",
+            &stored("flow"),
+            "--ticks",
+            ticks,
+            "--out",
+            "whole.raw",
+        ];
+        assert_eq!(told(&words).0, 0);
+        checksum(&std::fs::read(&raw).unwrap())
+    };
+    let five = sound("5");
+    let lines: Vec<&str> = record.lines().collect();
+    assert_eq!(
+        lines[..2],
+        [
+            "record 1",
+            concat!("program lampthistle ", env!("CARGO_PKG_VERSION"))
+        ]
+    );
+    assert_eq!(
+        lines[2..4],
+        [format!("module {module}"), "# a trial".into()]
+    );
+    assert_eq!(
+        lines[4..6],
+        [format!("play 5 = 0 0 5 5 {five} # begins"), String::new()]
+    );
+    assert_eq!(lines[6], format!("touch 0 3 1 = 0 0 0 5 {five}"));
+    assert_eq!(lines[7], format!("page = 0 0 0 5 {five}"));
+    assert_eq!(lines[8], format!("touch 0 5 1 = 16 0 0 5 {five}"));
+    assert!(lines[9].starts_with("play 2 = 0 0 2 7 ") && lines.len() == 10);
+}
+
+#[test]
+fn a_record_comes_again() {
+    let (record, written) = recorded("again.record");
+    let (status, out, err) = told(&["replay", &stored("flow"), &record, "--check"]);
+    let line = format!("{record}: 5 calls, 7 ticks: every answer and checksum came again\n");
+    assert_eq!((status, out, err), (0, line, String::new()));
+    // A record is a script: recorded again, it is the same.
+    let words = ["replay", &stored("flow"), &record, "--record", "-"];
+    let (status, out, _) = told(&words);
+    assert_eq!((status, out), (0, written));
+}
+
+#[test]
+fn a_record_that_differs_says_where_and_how() {
+    let (_, written) = recorded("differs.record");
+    let zeros = "0".repeat(16);
+    let sum = written.lines().nth(6).unwrap().rsplit(' ').next().unwrap();
+    for (from, to, line) in [
+        (
+            "16 0 0 5",
+            "17 0 0 5",
+            ":9: touch 0 5 1: number 16, recorded 17",
+        ),
+        ("= 0 0 2 7", "= 0 1 2 7", ":10: play 2: place 0, recorded 1"),
+        ("= 0 0 2 7", "= 0 0 3 7", ":10: play 2: count 2, recorded 3"),
+        ("= 0 0 2 7", "= 0 0 2 8", ":10: play 2: clock 7, recorded 8"),
+        (
+            sum,
+            &zeros,
+            &format!(":5: play 5: sound {sum}, recorded {zeros}"),
+        ),
+    ] {
+        let other = text("other.record", &written.replacen(from, to, 1));
+        let (status, out, err) = told(&["replay", &stored("flow"), &other, "--check"]);
+        assert_eq!((status, out.as_str()), (1, ""));
+        assert!(err.ends_with(&format!("other.record{line}\n")), "{err}");
+        // Without --check the same script runs.
+        assert_eq!(told(&["replay", &stored("flow"), &other]).0, 0);
+    }
+    let (status, _, err) = told(&[
+        "replay",
+        &stored("edges"),
+        &text("o.record", &written),
+        "--check",
+    ]);
+    assert_eq!(status, 1);
+    assert!(err.contains("o.record:3: module "), "{err}");
+}
+
+#[test]
+fn what_is_no_record_is_not_checked() {
+    let module = &stored("flow");
+    for (lines, reason) in [
+        (SCRIPT, "not a record: it names no module"),
+        ("record 2\n", ":1: not "),
+        ("play 1\nrecord 1\n", ":2: not "),
+        ("record 1\nprogram x\nmodule 12\n", ":3: not "),
+    ] {
+        let (status, out, err) = told(&["replay", module, &text("no.record", lines), "--check"]);
+        assert_eq!((status, out.as_str()), (2, ""), "{lines}");
+        assert!(err.contains(reason), "{err}");
+    }
+    let (_, written) = recorded("cut.record");
+    let cut = text("cut.record", &(written + "play 3\n"));
+    let (status, _, err) = told(&["replay", module, &cut, "--check"]);
+    assert_eq!(status, 2);
+    assert!(
+        err.contains("cut.record:11: play 3: has no results"),
+        "{err}"
+    );
+}
