@@ -18,8 +18,6 @@ export FILE
 C_WARNINGS := -Wall -Wextra -Werror -pedantic
 BUILT := host/target/release
 PLAY := $(BUILT)/lampthistle
-# The demo's song once through.
-DEMO_TICKS := 1470
 
 # One archive for C, C++ and every cargo profile.
 export LAMPTHISTLE_LIB_DIR := $(CURDIR)/out
@@ -35,10 +33,10 @@ judge: lib
 demo: all
 	$(BUILT)/demo out/demo.mod
 	$(PLAY) info out/demo.mod
-	$(PLAY) play out/demo.mod --ticks $(DEMO_TICKS) --out out/demo.wav
-	$(PLAY) translate out/demo.mod --ticks $(DEMO_TICKS) --out out/demo.stream
+	$(PLAY) play out/demo.mod --once --out out/demo.wav
+	$(PLAY) translate out/demo.mod --once --out out/demo.stream
 	$(PLAY) board out/demo.stream out/demo.mod --out out/demo-board.wav
-	$(PLAY) compare out/demo.mod --ticks $(DEMO_TICKS)
+	$(PLAY) compare out/demo.mod --once
 	cmp out/demo.wav out/demo-board.wav
 
 bench: all
@@ -73,7 +71,7 @@ c-test: demo
 	$(PLAY) replay out/demo.mod out/trial.record --check
 	cmp -n $$(stat -c %s out/panel.raw) out/panel.raw out/trial.raw
 	out/board out/demo.stream out/demo.mod out/board.raw
-	$(PLAY) play out/demo.mod --ticks $(DEMO_TICKS) --out out/demo.raw
+	$(PLAY) play out/demo.mod --once --out out/demo.raw
 	cmp out/board.raw out/demo.raw
 	$(MAKE) --question lib
 	cp out/demo.mod 'out/the demo.mod'

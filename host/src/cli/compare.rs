@@ -1,6 +1,7 @@
 //! compare FILE: the player and the sound board, number by number.
 use super::board::Board;
 use super::input::{self, Source};
+use super::length::ticks_asked;
 use super::output::{counted, say};
 use super::progress::Progress;
 use super::records;
@@ -15,9 +16,9 @@ use lampthistle::{Answer, TICK_NUMBERS};
 pub const COMMAND: Command = Command {
     name: "compare",
     options: &["--ticks"],
-    flags: &[],
+    flags: &["--once"],
     help: "\
-lampthistle compare FILE [--ticks N] [--plain]
+lampthistle compare FILE [--once | --ticks N] [--plain]
 
 Plays the module's first N ticks, 1,000 without --ticks and 65,535 at most, translates them to a tick stream, plays the stream, and says
 that both sound the same, or where they first differ.
@@ -35,8 +36,8 @@ Exit status: 0 equal; 1 refused or different; 2 wrong use, or a file that cannot
 const TICKS: u32 = 1_000;
 
 fn run(words: &Words) -> Result<bool, Stop> {
-    let ticks = words.number("--ticks")?.unwrap_or(TICKS);
     let [source] = input::read_all(words.files(["FILE"])?)?;
+    let ticks = ticks_asked(words, &source)?.unwrap_or(TICKS);
     let stream = translated(&source, ticks)?;
     let name = &source.name;
     let text = match difference(&source, &stream)? {

@@ -1,6 +1,7 @@
 //! info FILE: what an accepted module holds, read by offset.
+use super::course::{course, Course, MOST_TICKS};
 use super::layout::{headers, pattern_count, played, readable, Header, TITLE};
-use super::output::say;
+use super::output::{counted, say, seconds};
 use super::report::plain;
 use super::stop::Stop;
 use super::words::Words;
@@ -13,9 +14,11 @@ pub const COMMAND: Command = Command {
     help: "\
 lampthistle info [--plain] FILE
 
-Shows a module's title, song length, pattern count, table, and its samples with lengths, volumes and loops, in bytes.
---plain prints NUMBER PLACE COUNT of the judging; then song length and pattern count; the played table entries; and a line a sample
-that has bytes: its number, length, volume, loop start and loop length, 0 0 without a loop.
+Shows a module's title, song length, pattern count and table; how long it plays until it comes back to a place where it has been; and
+its samples with lengths, volumes and loops, in bytes.
+--plain prints NUMBER PLACE COUNT of the judging; then song length and pattern count; the played table entries; ticks and frames until it
+comes back, and that position and row, or - - - - if it does not; and a line a sample that has bytes: its number, length, volume, loop
+start and loop length, 0 0 without a loop.
 
 Example:
   lampthistle info song.mod
@@ -32,22 +35,40 @@ fn run(words: &Words) -> Result<bool, Stop> {
     let patterns = pattern_count(file);
     let played = played(file);
     let table: Vec<String> = played.iter().map(u8::to_string).collect();
+    let course = course(&source)?;
     let mut text = String::new();
     if words.plain {
         text += &plain(&answer);
         text += &format!("{} {patterns}\n{}\n", played.len(), table.join(" "));
+        text += &match &course {
+            Some(c) => format!("{} {} {} {}\n", c.ticks, c.frames, c.position, c.row),
+            None => "- - - -\n".into(),
+        };
     } else {
         text += format!("title        {}", readable(&file[TITLE])).trim_end();
         text.push('\n');
         text += &format!("song length  {}\n", played.len());
         text += &format!("patterns     {patterns}\n");
         text += &format!("table        {}\n", table.join(" "));
+        text += &format!("plays        {}\n", lasting(course.as_ref()));
         text += "sample  bytes   volume  loop             name\n";
     }
     for header in headers(file).filter(|header| header.length > 0) {
         text += &sample_line(words, &header);
     }
     say(&text).map(|()| true)
+}
+
+/// How long the song is.
+fn lasting(course: Option<&Course>) -> String {
+    match course {
+        Some(course) => {
+            let (ticks, seconds) = (counted(course.ticks.into(), "tick"), seconds(course.frames));
+            let (position, row) = (course.position, course.row);
+            format!("{ticks}, {seconds}, then on from position {position}, row {row}")
+        }
+        None => format!("on and on: it does not come back to a place within {MOST_TICKS} ticks"),
+    }
 }
 
 fn sample_line(words: &Words, header: &Header) -> String {

@@ -1,5 +1,6 @@
 //! How much of a song is asked for.
-use super::input::quoted;
+use super::course::once;
+use super::input::{quoted, Source};
 use super::progress::Progress;
 use super::stop::Stop;
 use super::words::Words;
@@ -13,19 +14,50 @@ pub enum Length {
     Frames(u64),
 }
 
-/// What is played without a length.
+/// What the words ask for.
+pub enum Asked {
+    Length(Length),
+    /// The song until it comes back.
+    Once,
+    Nothing,
+}
+
+impl Asked {
+    /// The length of an accepted module; a minute if nothing is asked for.
+    pub fn length(self, source: &Source) -> Result<Length, Stop> {
+        match self {
+            Asked::Length(length) => Ok(length),
+            Asked::Once => once(source).map(Length::Ticks),
+            Asked::Nothing => Ok(MINUTE),
+        }
+    }
+}
+
+/// The ticks that --ticks or --once names, for a command without --seconds.
+pub fn ticks_asked(words: &Words, source: &Source) -> Result<Option<u32>, Stop> {
+    match Length::asked(words)? {
+        Asked::Length(Length::Ticks(ticks)) => Ok(Some(ticks)),
+        Asked::Once => source.judge().and_then(|_| once(source)).map(Some),
+        _ => Ok(None),
+    }
+}
+
 const MINUTE: Length = Length::Frames(60 * RATE as u64);
 
 impl Length {
-    /// The length that --ticks or --seconds names.
-    pub fn asked(words: &Words) -> Result<Length, Stop> {
-        match (words.number("--ticks")?, words.value("--seconds")) {
-            (Some(_), Some(_)) => Err(Stop::Usage(
-                "--ticks and --seconds exclude each other".into(),
+    /// The length that --ticks, --seconds or --once names.
+    pub fn asked(words: &Words) -> Result<Asked, Stop> {
+        let ticks = words.number("--ticks")?;
+        let seconds = words.value("--seconds").map(seconds).transpose()?;
+        let length = ticks.map(Length::Ticks).or(seconds);
+        let (both, once) = (ticks.and(seconds).is_some(), words.has("--once"));
+        match length {
+            _ if both || once && length.is_some() => Err(Stop::Usage(
+                "--ticks, --seconds and --once exclude each other".into(),
             )),
-            (Some(ticks), None) => Ok(Length::Ticks(ticks)),
-            (None, Some(text)) => seconds(text),
-            (None, None) => Ok(MINUTE),
+            None if once => Ok(Asked::Once),
+            None => Ok(Asked::Nothing),
+            Some(length) => Ok(Asked::Length(length)),
         }
     }
 

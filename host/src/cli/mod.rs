@@ -2,6 +2,7 @@
 mod board;
 mod checksum;
 mod compare;
+mod course;
 mod info;
 mod input;
 mod judge;

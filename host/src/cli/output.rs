@@ -43,9 +43,14 @@ pub fn counted(count: u64, unit: &str) -> String {
 
 /// What was played, for a person.
 pub fn played(name: &str, ticks: u64, frames: u64) -> String {
-    let seconds = frames as f64 / f64::from(RATE);
-    let (ticks, frames) = (counted(ticks, "tick"), counted(frames, "frame"));
-    format!("{name}: played {ticks}, {frames}, {seconds:.3} seconds\n")
+    let (ticks, seconds) = (counted(ticks, "tick"), seconds(frames));
+    let frames = counted(frames, "frame");
+    format!("{name}: played {ticks}, {frames}, {seconds}\n")
+}
+
+/// How long so many frames sound.
+pub fn seconds(frames: u64) -> String {
+    format!("{:.3} seconds", frames as f64 / f64::from(RATE))
 }
 
 /// Writes bytes to a file, whole.

@@ -14,17 +14,18 @@ use lampthistle::Answer;
 pub const COMMAND: Command = Command {
     name: "play",
     options: &["--ticks", "--seconds", "--out"],
-    flags: &[],
+    flags: &["--once"],
     help: "\
-lampthistle play FILE [--ticks N | --seconds S] --out OUT [--plain]
+lampthistle play FILE [--once | --ticks N | --seconds S] --out OUT [--plain]
 
 Renders the module from its beginning: 48,000 frames a second, two channels. OUT ends in .wav, or in .raw for bare 16-bit numbers, low
-byte first; - writes bare numbers to standard output. --ticks N plays N ticks; --seconds S the whole ticks that fit into S seconds;
-without them it plays 60 seconds. A song that ends goes on from its beginning.
+byte first; - writes bare numbers to standard output. --once plays until the song comes back to a place where it has been, as info
+tells; --ticks N plays N ticks; --seconds S the whole ticks that fit into S seconds; without them it plays 60 seconds. A song that ends
+goes on from its beginning. OUT gets its name when it is whole; until then it is OUT.NUMBER.part.
 --plain prints NUMBER PLACE COUNT, the count in ticks.
 
 Examples:
-  lampthistle play song.mod --seconds 30 --out song.wav
+  lampthistle play song.mod --once --out song.wav
   lampthistle play song.mod --out - | aplay -f S16_LE -c 2 -r 48000
 
 Exit status: 0 accepted; 1 refused, and OUT is not written; 2 wrong use, or a file that cannot be read or written.
@@ -33,11 +34,12 @@ Exit status: 0 accepted; 1 refused, and OUT is not written; 2 wrong use, or a fi
 };
 
 fn run(words: &Words) -> Result<bool, Stop> {
-    let length = Length::asked(words)?;
+    let asked = Length::asked(words)?;
     let out = words.needed("--out")?;
     sound::format(out)?;
     let [source] = input::read_all(words.files(["FILE"])?)?;
     let judged = source.judge()?;
+    let length = asked.length(&source)?;
     check_room(out, length.most(), |room| frames_of(&source, length, room))?;
     let mut sound = Sound::create(out, &[&source])?;
     let (ticks, frames) = render(&source, length, &mut sound)?;

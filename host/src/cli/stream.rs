@@ -1,6 +1,7 @@
 //! translate FILE: writes a module's tick stream. board STREAM FILE: plays one.
 use super::board::{self, Board};
 use super::input::{self, Source};
+use super::length::ticks_asked;
 use super::output::{self, check_terminal, counted, tell, write_bytes};
 use super::progress::Progress;
 use super::records;
@@ -14,11 +15,12 @@ use lampthistle::Answer;
 pub const TRANSLATE: Command = Command {
     name: "translate",
     options: &["--ticks", "--out"],
-    flags: &[],
+    flags: &["--once"],
     help: "\
-lampthistle translate FILE --ticks N --out OUT [--plain]
+lampthistle translate FILE (--once | --ticks N) --out OUT [--plain]
 
-Writes the tick stream of the module's first N ticks, 65,535 at most, to OUT; - is standard output.
+Writes the tick stream of the module's first N ticks, 65,535 at most, to OUT; - is standard output. --once takes the ticks until the
+song comes back to a place where it has been, as info tells.
 --plain prints NUMBER PLACE COUNT, the count in bytes.
 
 Example:
@@ -48,12 +50,12 @@ Exit status: 0 accepted; 1 refused, and OUT is not written; 2 wrong use, or a fi
 };
 
 fn run_translate(words: &Words) -> Result<bool, Stop> {
-    let Some(ticks) = words.number("--ticks")? else {
-        return Err(Stop::Usage("no --ticks".into()));
-    };
     let out = words.needed("--out")?;
     check_terminal(out)?;
     let [source] = input::read_all(words.files(["FILE"])?)?;
+    let Some(ticks) = ticks_asked(words, &source)? else {
+        return Err(Stop::Usage("no --ticks".into()));
+    };
     let stream = translated(&source, ticks)?;
     write_bytes(out, &[&source], &stream)?;
     let bytes = stream.len();

@@ -1,4 +1,5 @@
 //! trace FILE: a line a tick, from the translated stream.
+use super::length::ticks_asked;
 use super::output::say;
 use super::records::{records, Command as Registers, Record};
 use super::report::plain;
@@ -11,9 +12,9 @@ use lampthistle::Answer;
 pub const COMMAND: Command = Command {
     name: "trace",
     options: &["--ticks"],
-    flags: &[],
+    flags: &["--once"],
     help: "\
-lampthistle trace FILE [--ticks N] [--plain]
+lampthistle trace FILE [--once | --ticks N] [--plain]
 
 Shows the first N ticks, 100 without --ticks, a line a tick: its number, the tempo, and each channel's sample, volume and sounded
 period. A * stands before a channel that changes or starts; @ and the byte offset after one that starts.
@@ -35,8 +36,8 @@ const TICKS: u32 = 100;
 const PIECE: usize = 1 << 16;
 
 fn run(words: &Words) -> Result<bool, Stop> {
-    let ticks = words.number("--ticks")?.unwrap_or(TICKS);
     let [source] = input::read_all(words.files(["FILE"])?)?;
+    let ticks = ticks_asked(words, &source)?.unwrap_or(TICKS);
     let stream = translated(&source, ticks)?;
     let mut text = heading(words, stream.len() as u64);
     let mut registers = [Registers::default(); 4];

@@ -3,6 +3,7 @@ mod commands;
 mod common;
 mod outputs;
 mod robust;
+mod songs;
 mod sounds;
 mod streams;
 mod trials;
