@@ -1,24 +1,28 @@
-//! info FILE: what an accepted module holds, read by offset.
+//! info FILE: what an accepted module holds, and how long it plays.
 use super::course::{course, Course, MOST_TICKS};
+use super::input::{self, Source};
+use super::json::{self, Fields, Value};
 use super::layout::{headers, pattern_count, played, readable, Header, TITLE};
+use super::notes::notes;
 use super::output::{counted, say, seconds};
-use super::report::plain;
+use super::report::{self, plain_accepted};
 use super::stop::Stop;
 use super::words::Words;
-use super::{input, Command};
+use super::Command;
 
 pub const COMMAND: Command = Command {
     name: "info",
     options: &[],
-    flags: &[],
+    flags: &["--json"],
     help: "\
-lampthistle info [--plain] FILE
+lampthistle info [--plain | --json] FILE
 
-Shows a module's title, song length, pattern count and table; how long it plays until it comes back to a place where it has been; and
-its samples with lengths, volumes and loops, in bytes.
+Shows a module's title, song length, pattern count and table; how long it plays until it comes back to a place where it has been; its
+samples with lengths, volumes and loops, in bytes; and what it asks for that does nothing here, as judge --notes does.
 --plain prints NUMBER PLACE COUNT of the judging; then song length and pattern count; the played table entries; ticks and frames until it
-comes back, and that position and row, or - - - - if it does not; and a line a sample that has bytes: its number, length, volume, loop
-start and loop length, 0 0 without a loop.
+comes back, and that position and row, or - - - - if it does not; a line a sample that has bytes: its number, length, volume, loop start
+and loop length, 0 0 without a loop; and a line a note: note EFFECT CELLS PATTERN ROW CHANNEL.
+--json prints all of it as one object.
 
 Example:
   lampthistle info song.mod
@@ -30,33 +34,51 @@ Exit status: 0 accepted; 1 refused; 2 wrong use, or a file that cannot be read.
 
 fn run(words: &Words) -> Result<bool, Stop> {
     let [source] = input::read_all(words.files(["FILE"])?)?;
-    let answer = source.judge()?;
-    let file = &source.bytes;
-    let patterns = pattern_count(file);
-    let played = played(file);
-    let table: Vec<String> = played.iter().map(u8::to_string).collect();
+    let _ = source.judge()?;
     let course = course(&source)?;
-    let mut text = String::new();
-    if words.plain {
-        text += &plain(&answer);
-        text += &format!("{} {patterns}\n{}\n", played.len(), table.join(" "));
-        text += &match &course {
-            Some(c) => format!("{} {} {} {}\n", c.ticks, c.frames, c.position, c.row),
-            None => "- - - -\n".into(),
-        };
+    let (file, course) = (&source.bytes, course.as_ref());
+    let text = if words.json {
+        json::object(fields(&source, course))
+    } else if words.plain {
+        bare(file, course)
     } else {
-        text += format!("title        {}", readable(&file[TITLE])).trim_end();
-        text.push('\n');
-        text += &format!("song length  {}\n", played.len());
-        text += &format!("patterns     {patterns}\n");
-        text += &format!("table        {}\n", table.join(" "));
-        text += &format!("plays        {}\n", lasting(course.as_ref()));
-        text += "sample  bytes   volume  loop             name\n";
-    }
-    for header in headers(file).filter(|header| header.length > 0) {
-        text += &sample_line(words, &header);
-    }
+        page(file, course)
+    };
     say(&text).map(|()| true)
+}
+
+/// The samples that have bytes.
+fn samples(file: &[u8]) -> impl Iterator<Item = Header<'_>> {
+    headers(file).filter(|header| header.length > 0)
+}
+
+fn table(file: &[u8]) -> String {
+    let entries: Vec<String> = played(file).iter().map(u8::to_string).collect();
+    entries.join(" ")
+}
+
+/// What a person reads.
+fn page(file: &[u8], course: Option<&Course>) -> String {
+    let mut lines = vec![
+        format!("title        {}", readable(&file[TITLE])),
+        format!("song length  {}", played(file).len()),
+        format!("patterns     {}", pattern_count(file)),
+        format!("table        {}", table(file)),
+        format!("plays        {}", lasting(course)),
+        "sample  bytes   volume  loop             name".into(),
+    ];
+    lines.extend(samples(file).map(|header| {
+        let (number, length, volume) = (header.number, header.length, header.volume);
+        let looped = match header.looped() {
+            Some((start, length)) => format!("{start} to {}", start + length),
+            None => "none".into(),
+        };
+        let name = readable(header.name);
+        format!("{number:>6}  {length:>6}  {volume:>6}  {looped:<15}  {name}")
+    }));
+    lines.extend(notes(file).iter().map(|note| note.line()));
+    let lines = lines.iter().map(|line| line.trim_end().to_string() + "\n");
+    lines.collect()
 }
 
 /// How long the song is.
@@ -71,30 +93,58 @@ fn lasting(course: Option<&Course>) -> String {
     }
 }
 
-fn sample_line(words: &Words, header: &Header) -> String {
-    let Header {
-        number,
-        length,
-        volume,
-        ..
-    } = header;
-    // A repeat length of one word, two bytes, is no loop.
-    let (start, repeat) = if header.loop_length > 2 {
-        (header.loop_start, header.loop_length)
-    } else {
-        (0, 0)
+/// Numbers for scripts.
+fn bare(file: &[u8], course: Option<&Course>) -> String {
+    let mut text = plain_accepted(0);
+    let (entries, patterns) = (played(file).len(), pattern_count(file));
+    text += &format!("{entries} {patterns}\n{}\n", table(file));
+    text += &match course {
+        Some(c) => format!("{} {} {} {}\n", c.ticks, c.frames, c.position, c.row),
+        None => "- - - -\n".into(),
     };
-    if words.plain {
-        return format!("{number} {length} {volume} {start} {repeat}\n");
+    for header in samples(file) {
+        let (number, length, volume) = (header.number, header.length, header.volume);
+        let (start, repeat) = header.looped().unwrap_or((0, 0));
+        text += &format!("{number} {length} {volume} {start} {repeat}\n");
     }
-    let looped = if repeat > 0 {
-        format!("{start} to {}", start + repeat)
-    } else {
-        "none".into()
-    };
-    let name = readable(header.name);
-    format!("{number:>6}  {length:>6}  {volume:>6}  {looped:<15}  {name}")
-        .trim_end()
-        .to_string()
-        + "\n"
+    for note in notes(file) {
+        text += &format!("{}\n", note.plain());
+    }
+    text
+}
+
+fn fields(source: &Source, course: Option<&Course>) -> Fields {
+    let file = &source.bytes;
+    let mut fields = report::accepted(&source.name);
+    let comes_back = course.map(|course| -> Fields {
+        vec![
+            ("position", course.position.into()),
+            ("row", course.row.into()),
+        ]
+    });
+    fields.extend([
+        ("title", readable(&file[TITLE]).into()),
+        ("song_length", played(file).len().into()),
+        ("patterns", pattern_count(file).into()),
+        ("table", Value::list(played(file).iter().copied())),
+        ("ticks", course.map(|course| course.ticks).into()),
+        ("frames", course.map(|course| course.frames).into()),
+        ("comes_back_to", comes_back.into()),
+        ("samples", Value::list(samples(file).map(sample_fields))),
+        ("notes", Value::list(notes(file).iter().map(|n| n.fields()))),
+    ]);
+    fields
+}
+
+fn sample_fields(header: Header) -> Fields {
+    let looped = header.looped();
+    vec![
+        ("sample", header.number.into()),
+        ("name", readable(header.name).into()),
+        ("bytes", header.length.into()),
+        ("volume", header.volume.into()),
+        ("finetune", header.finetune.into()),
+        ("loop_start", looped.map(|(start, _)| start).into()),
+        ("loop_length", looped.map(|(_, length)| length).into()),
+    ]
 }

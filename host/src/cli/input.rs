@@ -1,4 +1,5 @@
 //! Reading the files that are named.
+use super::place;
 use super::stop::{Refusal, Stop};
 use lampthistle::Answer;
 use std::ffi::OsStr;
@@ -33,8 +34,11 @@ impl Source {
 
     /// This file's refusal.
     pub fn refused(&self, answer: Answer) -> Stop {
-        let name = self.name.clone();
-        Stop::Refused(Refusal { name, answer })
+        Stop::Refused(Refusal {
+            name: self.name.clone(),
+            answer,
+            found: place::found(&self.bytes, &answer),
+        })
     }
 }
 

@@ -1,24 +1,34 @@
 //! judge FILE..: a line a file.
+use super::input::{self, Source};
+use super::json::{self, Fields, Value};
+use super::notes::notes;
 use super::output::say;
-use super::report::line;
+use super::report;
 use super::stop::Stop;
 use super::words::Words;
-use super::{input, Command};
-use lampthistle::Answer;
+use super::Command;
 
 pub const COMMAND: Command = Command {
     name: "judge",
     options: &[],
-    flags: &[],
+    flags: &["--notes", "--json"],
     help: "\
-lampthistle judge [--plain] FILE..
+lampthistle judge [--notes] [--plain | --json] FILE..
 
-Says whether each file is a module that can be played: a line a file, accepted, or the refusal's number, place and meaning.
---plain prints NUMBER PLACE COUNT NAME instead, and - - - NAME for a file that cannot be read.
+Says whether each file is a module that can be played: a line a file, accepted, or the refusal's number, place and meaning, and what
+stands there.
+--notes adds a line for each effect that an accepted module asks for and that does nothing here, and for finetune: in how many cells of
+the played patterns, and where first.
+--plain prints NUMBER PLACE COUNT NAME instead, and - - - NAME for a file that cannot be read; a note is
+note EFFECT CELLS PATTERN ROW CHANNEL NAME.
+--json prints an object a file.
 
-Example:
+Examples:
   lampthistle judge song.mod
-  song.mod: refused 9 at 1484: a cell's period is neither 0 nor 113 to 856
+  song.mod: refused 9 at 1484: a cell's period is neither 0 nor 113 to 856 (pattern 0, row 25, channel 1, period 857)
+  lampthistle judge --notes other.mod
+  other.mod: accepted
+  other.mod: effect 4 (vibrato) does nothing: 3 cells, first in pattern 0, row 16, channel 2
 
 Exit status: 0 all accepted; 1 one refused; 2 wrong use, or a file that cannot be read.
 ",
@@ -35,16 +45,18 @@ fn run(words: &Words) -> Result<bool, Stop> {
     let (mut all, mut read) = (true, true);
     for name in &words.files {
         let text = match input::read(name) {
-            Ok(source) => {
-                let answer = lampthistle::judge(&source.bytes);
-                all &= answer.is_accepted();
-                judged(words, &source.name, &answer)
-            }
+            Ok(source) => match source.judge() {
+                Err(Stop::Refused(refusal)) => {
+                    all = false;
+                    named(words, report::refusal_line(words, &refusal), &source.name)
+                }
+                judged => judged.map(|_| accepted(words, &source))?,
+            },
             // The other files are judged all the same.
             Err(stop) => {
                 stop.tell();
                 read = false;
-                unread(words, &input::shown(name))
+                unread(words, &input::shown(name), &stop)
             }
         };
         say(&text)?;
@@ -56,19 +68,52 @@ fn run(words: &Words) -> Result<bool, Stop> {
     }
 }
 
-/// A file's line. Bare answers have the name, too: there may be many.
-fn judged(words: &Words, name: &str, answer: &Answer) -> String {
-    let text = line(words, name, answer);
+/// Bare lines end in the file's name: there may be many files.
+fn named(words: &Words, line: String, name: &str) -> String {
     if words.plain {
-        format!("{} {name}\n", text.trim_end())
+        format!("{} {name}\n", line.trim_end())
     } else {
-        text
+        line
     }
 }
 
+/// The lines of an accepted file.
+fn accepted(words: &Words, source: &Source) -> String {
+    let name = &source.name;
+    let notes = if words.has("--notes") {
+        notes(&source.bytes)
+    } else {
+        Vec::new()
+    };
+    if words.json {
+        let mut fields = report::accepted(name);
+        if words.has("--notes") {
+            let notes = notes.iter().map(|note| note.fields());
+            fields.push(("notes", Value::list(notes)));
+        }
+        return json::object(fields);
+    }
+    let first = if words.plain {
+        format!("0 0 0 {name}\n")
+    } else {
+        format!("{name}: accepted\n")
+    };
+    let lines = notes.iter().map(|note| {
+        if words.plain {
+            format!("{} {name}\n", note.plain())
+        } else {
+            format!("{name}: {}\n", note.line())
+        }
+    });
+    first + &lines.collect::<String>()
+}
+
 /// The line of a file that cannot be read, where scripts count on one.
-fn unread(words: &Words, name: &str) -> String {
-    if words.plain {
+fn unread(words: &Words, name: &str, stop: &Stop) -> String {
+    if words.json {
+        let fields: Fields = vec![("file", name.into()), ("error", stop.reason().into())];
+        json::object(fields)
+    } else if words.plain {
         format!("- - - {name}\n")
     } else {
         String::new()

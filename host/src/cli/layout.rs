@@ -6,12 +6,16 @@ pub const HEADERS: Range<usize> = 20..950;
 pub const HEADER_BYTES: usize = 30;
 pub const SONG_LENGTH: usize = 950;
 pub const TABLE: Range<usize> = 952..1080;
+pub const TAG: Range<usize> = 1080..1084;
 const PATTERNS: usize = 1084;
 const PATTERN_BYTES: usize = 1024;
+const ROW_BYTES: usize = 16;
+const CELL_BYTES: usize = 4;
 
 /// A header's parts, from its first byte on.
 const NAME: Range<usize> = 0..22;
 const LENGTH: usize = 22;
+const FINETUNE: usize = 24;
 const VOLUME: usize = 25;
 const LOOP_START: usize = 26;
 const LOOP_LENGTH: usize = 28;
@@ -21,9 +25,18 @@ pub struct Header<'a> {
     pub number: usize,
     pub name: &'a [u8],
     pub length: u32,
+    /// Four bits.
+    pub finetune: u8,
     pub volume: u8,
     pub loop_start: u32,
     pub loop_length: u32,
+}
+
+impl Header<'_> {
+    /// Start and length of the loop; a repeat length of one word is none.
+    pub fn looped(&self) -> Option<(u32, u32)> {
+        (self.loop_length > 2).then_some((self.loop_start, self.loop_length))
+    }
 }
 
 /// All headers in order; samples are numbered from 1.
@@ -35,6 +48,7 @@ pub fn headers(file: &[u8]) -> impl Iterator<Item = Header<'_>> {
         number: k + 1,
         name: &bytes[NAME],
         length: word(bytes, LENGTH),
+        finetune: bytes[FINETUNE] % 16,
         volume: bytes[VOLUME],
         loop_start: word(bytes, LOOP_START),
         loop_length: word(bytes, LOOP_LENGTH),
@@ -51,6 +65,62 @@ pub fn pattern_count(file: &[u8]) -> usize {
     last.map_or(0, |&last| usize::from(last) + 1)
 }
 
+/// Where a cell is; channels from 1, the others from 0.
+#[derive(Clone, Copy)]
+pub struct Spot {
+    pub pattern: usize,
+    pub row: usize,
+    pub channel: usize,
+}
+
+/// What a cell holds.
+pub struct Cell {
+    pub sample: u8,
+    pub period: u16,
+    /// E0 to EF are 0xE0 to 0xEF.
+    pub effect: u8,
+}
+
+/// The cell at a byte of the patterns.
+pub fn spot(place: usize) -> Spot {
+    let at = place - PATTERNS;
+    Spot {
+        pattern: at / PATTERN_BYTES,
+        row: at % PATTERN_BYTES / ROW_BYTES,
+        channel: at % ROW_BYTES / CELL_BYTES + 1,
+    }
+}
+
+pub fn cell(file: &[u8], place: usize) -> Cell {
+    const EXTENDED: u8 = 0xE;
+    let [b0, b1, b2, b3] = [0, 1, 2, 3].map(|k| file[place + k]);
+    let effect = b2 % 16;
+    Cell {
+        sample: b0 / 16 * 16 + b2 / 16,
+        period: u16::from(b0 % 16) * 256 + u16::from(b1),
+        effect: if effect == EXTENDED {
+            EXTENDED * 16 + b3 / 16
+        } else {
+            effect
+        },
+    }
+}
+
+/// The cells of the patterns that are played, each pattern once, in the song's order.
+pub fn played_cells(file: &[u8]) -> impl Iterator<Item = (Spot, Cell)> + '_ {
+    let mut patterns: Vec<usize> = Vec::new();
+    for &pattern in played(file) {
+        if !patterns.contains(&pattern.into()) {
+            patterns.push(pattern.into());
+        }
+    }
+    let begin = |pattern| PATTERNS + PATTERN_BYTES * pattern;
+    let places = patterns
+        .into_iter()
+        .flat_map(move |pattern| (begin(pattern)..begin(pattern + 1)).step_by(CELL_BYTES));
+    places.map(|place| (spot(place), cell(file, place)))
+}
+
 /// The module without its samples' bytes: it plays the same ticks (the sequencer's `same-ticks`), with every voice silent, so that a
 /// tick takes little time.
 pub fn silenced(file: &[u8]) -> Vec<u8> {
@@ -63,13 +133,16 @@ pub fn silenced(file: &[u8]) -> Vec<u8> {
     silent
 }
 
-/// Text of a file up to its first zero byte, with a dot for what does not print.
+/// Text of a file up to its first zero byte.
 pub fn readable(bytes: &[u8]) -> String {
-    let text = bytes.split(|&byte| byte == 0).next().unwrap_or(bytes);
-    text.iter()
-        .map(|&byte| match byte {
-            b' '..=b'~' => char::from(byte),
-            _ => '.',
-        })
-        .collect()
+    printable(bytes.split(|&byte| byte == 0).next().unwrap_or(bytes))
+}
+
+/// Bytes as text, with a dot for what does not print.
+pub fn printable(bytes: &[u8]) -> String {
+    let shown = |&byte: &u8| match byte {
+        b' '..=b'~' => char::from(byte),
+        _ => '.',
+    };
+    bytes.iter().map(shown).collect()
 }

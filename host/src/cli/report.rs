@@ -1,23 +1,65 @@
-//! An answer as a line: for a person, or bare.
+//! An answer as a line: for a person, bare, or as an object.
+use super::json::{self, Fields};
 use super::output;
+use super::place;
 use super::stop::{Refusal, Stop};
 use super::words::Words;
 use lampthistle::Answer;
 
-/// The line of a file's answer.
-pub fn line(words: &Words, name: &str, answer: &Answer) -> String {
-    if words.plain {
+/// Tells a refusal as the command's result.
+pub fn refused(words: &Words, refusal: &Refusal) -> Result<(), Stop> {
+    output::tell(words, &refusal_line(words, refusal))
+}
+
+pub fn refusal_line(words: &Words, refusal: &Refusal) -> String {
+    let Refusal {
+        name,
+        answer,
+        found,
+    } = refusal;
+    if words.json {
+        json::object(refusal_fields(refusal))
+    } else if words.plain {
         plain(answer)
-    } else {
+    } else if found.is_empty() {
         format!("{name}: {answer}\n")
+    } else {
+        format!("{name}: {answer} ({})\n", place::shown(found))
     }
+}
+
+fn refusal_fields(refusal: &Refusal) -> Fields {
+    let mut fields = answered(&refusal.name, &refusal.answer);
+    let found = refusal.found.iter();
+    fields.extend(found.map(|(name, value)| (*name, value.clone())));
+    fields
+}
+
+/// The first fields of an accepted file's object.
+pub fn accepted(name: &str) -> Fields {
+    answered(name, &ACCEPTED)
+}
+
+fn answered(name: &str, answer: &Answer) -> Fields {
+    vec![
+        ("file", name.into()),
+        ("number", answer.number.into()),
+        ("place", answer.place.into()),
+        ("meaning", answer.meaning().into()),
+    ]
+}
+
+const ACCEPTED: Answer = Answer {
+    number: 0,
+    place: 0,
+    count: 0,
+};
+
+/// A bare answer that is accepted.
+pub fn plain_accepted(count: u64) -> String {
+    plain(&Answer { count, ..ACCEPTED })
 }
 
 pub fn plain(answer: &Answer) -> String {
     format!("{} {} {}\n", answer.number, answer.place, answer.count)
-}
-
-/// Tells a refusal as the command's result.
-pub fn refused(words: &Words, refusal: &Refusal) -> Result<(), Stop> {
-    output::tell(words, &line(words, &refusal.name, &refusal.answer))
 }

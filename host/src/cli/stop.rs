@@ -1,4 +1,5 @@
 //! Why a command ends before its work is done, and the exit status that this gives.
+use super::json::Fields;
 use lampthistle::Answer;
 use std::io::{self, Write};
 
@@ -16,6 +17,8 @@ pub enum Stop {
 pub struct Refusal {
     pub name: String,
     pub answer: Answer,
+    /// The place in words, and what stands there.
+    pub found: Fields,
 }
 
 impl Stop {
@@ -30,14 +33,23 @@ impl Stop {
     /// Says on standard error why; a closed pipe is the reader's choice, and nothing to report.
     pub fn tell(&self) {
         let text = match self {
-            Stop::Io(_, e) if e.kind() == io::ErrorKind::BrokenPipe => return,
             Stop::Told => return,
-            Stop::Usage(what) | Stop::Cannot(what) => what.clone(),
-            Stop::Io(name, e) => format!("{name}: {}", cause(e)),
-            Stop::Refused(Refusal { name, answer }) => format!("{name}: {answer}"),
+            Stop::Io(_, e) if e.kind() == io::ErrorKind::BrokenPipe => return,
+            Stop::Io(name, _) => format!("{name}: {}", self.reason()),
+            _ => self.reason(),
         };
         // Nothing more can be done if standard error is closed, too.
         let _ = writeln!(io::stderr(), "lampthistle: {text}");
+    }
+
+    /// Why, in words.
+    pub fn reason(&self) -> String {
+        match self {
+            Stop::Usage(what) | Stop::Cannot(what) => what.clone(),
+            Stop::Io(_, e) => cause(e),
+            Stop::Refused(refusal) => format!("{}: {}", refusal.name, refusal.answer),
+            Stop::Told => String::new(),
+        }
     }
 }
 

@@ -7,6 +7,7 @@ use std::os::unix::ffi::OsStrExt;
 
 pub struct Words {
     pub plain: bool,
+    pub json: bool,
     pub help: bool,
     pub files: Vec<OsString>,
     flags: Vec<&'static str>,
@@ -16,6 +17,8 @@ pub struct Words {
 /// Options of every command.
 const PLAIN: &str = "--plain";
 const HELP: &str = "--help";
+/// An option of those commands that name it.
+const JSON: &str = "--json";
 /// Short names of options.
 const SHORT: [(&str, &str); 2] = [("-h", HELP), ("-o", "--out")];
 
@@ -24,6 +27,7 @@ impl Words {
     pub fn parse(words: &[OsString], command: &Command) -> Result<Words, Stop> {
         let mut sorted = Words {
             plain: false,
+            json: false,
             help: false,
             files: Vec::new(),
             flags: Vec::new(),
@@ -40,7 +44,11 @@ impl Words {
             }
         }
         sorted.plain = sorted.has(PLAIN);
+        sorted.json = sorted.has(JSON);
         sorted.help = sorted.has(HELP);
+        if sorted.plain && sorted.json {
+            return Err(Stop::Usage("--plain and --json exclude each other".into()));
+        }
         Ok(sorted)
     }
 

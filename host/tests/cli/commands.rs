@@ -10,8 +10,9 @@ fn judge_answers_a_line_a_file() {
     std::fs::write(&bad, file).unwrap();
     let (good, bad) = (stored("flow"), bad.to_str().unwrap());
     let (status, out, err) = told(&["judge", &good, bad]);
-    let lines =
-        format!("{good}: accepted\n{bad}: refused 2 at 1080: the tag at byte 1080 is not M.K.\n");
+    let lines = format!(
+        "{good}: accepted\n{bad}: refused 2 at 1080: the tag at byte 1080 is not M.K. (tag m.K.)\n"
+    );
     assert_eq!((status, out, err), (1, lines, String::new()));
     let (status, out, _) = told(&["judge", "--plain", &good, "no/such", bad]);
     let lines = format!("0 0 0 {good}\n- - - no/such\n2 1080 0 {bad}\n");
@@ -22,7 +23,8 @@ fn judge_answers_a_line_a_file() {
 #[test]
 fn info_shows_what_a_module_holds() {
     let (status, out, _) = told(&["info", "--plain", &stored("edges")]);
-    let lines = "0 0 0\n1 1\n0\n192 90240 0 0\n1 12 64 4 6\n2 40 64 0 0\n3 4 64 0 4\n31 512 1 200 56\n";
+    let lines =
+        "0 0 0\n1 1\n0\n192 90240 0 0\n1 12 64 4 6\n2 40 64 0 0\n3 4 64 0 4\n31 512 1 200 56\n";
     assert_eq!((status, out.as_str()), (0, lines));
     let (status, out, _) = told(&["info", &stored("flow")]);
     assert_eq!(status, 0);

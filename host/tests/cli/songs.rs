@@ -77,3 +77,80 @@ fn a_song_that_does_not_come_back_is_said() {
         "{err}"
     );
 }
+
+/// A module of two patterns, of which the first is played twice, with finetuned sample 2.
+fn asking(name: &str) -> String {
+    let module = quiet(name, &[]);
+    let mut file = std::fs::read(&module).unwrap();
+    file.resize(1084 + 3 * 1024, 0);
+    // Pattern 1 is played before 0, and 2 never.
+    (file[950], file[952], file[954], file[955]) = (3, 1, 1, 2);
+    file[20 + 30 + 24] = 0xF3;
+    for (pattern, row, channel, cell) in [
+        (0, 9, 1, [0, 0, 0x04, 0x11]),
+        (1, 12, 3, [0, 0, 0x04, 0]),
+        (1, 12, 2, [0, 0, 0x0E, 0xD3]),
+        (1, 13, 0, [1, 0xAC, 0x20, 0]),
+        (1, 14, 0, [0, 0, 0x0E, 0x93]),
+        (2, 0, 0, [0, 0, 0x07, 0x11]),
+    ] {
+        file[1084 + 1024 * pattern + 16 * row + 4 * channel..][..4].copy_from_slice(&cell);
+    }
+    std::fs::write(&module, file).unwrap();
+    module
+}
+
+#[test]
+fn notes_say_what_does_nothing() {
+    let name = &asking("asking.mod");
+    let lines = [
+        "effect 4 (vibrato) does nothing: 2 cells, first in pattern 1, row 12, channel 4",
+        "effect ED (note delay) does nothing: 1 cell, first in pattern 1, row 12, channel 3",
+        "finetune of a sample does nothing: 1 cell, first in pattern 1, row 13, channel 1",
+    ];
+    let (status, out, _) = told(&["judge", "--notes", name]);
+    let all: String = lines.map(|line| format!("{name}: {line}\n")).concat();
+    assert_eq!((status, out), (0, format!("{name}: accepted\n{all}")));
+    let (_, out, _) = told(&["info", name]);
+    assert!(out.ends_with(&(lines.join("\n") + "\n")), "{out}");
+    let (_, out, _) = told(&["judge", "--notes", "--plain", name]);
+    let notes = format!("note 4 2 1 12 4 {name}\nnote ED 1 1 12 3 {name}\n");
+    assert!(out.starts_with(&format!("0 0 0 {name}\n{notes}")), "{out}");
+    assert_eq!(told(&["judge", name]).1, format!("{name}: accepted\n"));
+}
+
+/// A change to a good file, and what its refusal says.
+const PLACES: [(usize, &[u8], &str); 7] = [
+    (1080, b"8CHN", "2 at 1080: the tag at byte 1080 is not M.K. (tag 8CHN)"),
+    (950, &[129], "3 at 950: the song length is 0 or above 128 (song length 129)"),
+    (957, &[64], "4 at 957: a table entry is above 63 (entry 5, pattern 64)"),
+    (105, &[65], "5 at 105: a sample's volume is above 64 (sample 3, volume 65)"),
+    (
+        106,
+        &[0, 2, 0, 3],
+        "6 at 106: a sample's loop leaves the sample (sample 3, bytes 0, loop start 4, loop length 6)",
+    ),
+    (
+        1492,
+        &[0x20, 0, 0, 0],
+        "8 at 1492: a cell's sample number is above 31 (pattern 0, row 25, channel 3, sample 32)",
+    ),
+    (
+        1484,
+        &[3, 0x59, 0, 0],
+        "9 at 1484: a cell's period is neither 0 nor 113 to 856 (pattern 0, row 25, channel 1, period 857)",
+    ),
+];
+
+#[test]
+fn a_refusal_says_what_stands_at_its_place() {
+    let module = quiet("place.mod", &[]);
+    let good = std::fs::read(&module).unwrap();
+    for (at, bytes, line) in PLACES {
+        let mut file = good.clone();
+        file[at..][..bytes.len()].copy_from_slice(bytes);
+        std::fs::write(&module, file).unwrap();
+        let (status, out, _) = told(&["judge", &module]);
+        assert_eq!((status, out), (1, format!("{module}: refused {line}\n")));
+    }
+}
