@@ -1,28 +1,37 @@
-//! compare FILE: the player and the sound board, number by number.
-use super::board::Board;
+//! compare FILE: the player, number by number, with the sound board, a given stream or a recording.
+use super::board::{self, Board};
 use super::input::{self, Source};
+use super::json::{self, Fields};
 use super::length::ticks_asked;
 use super::output::{counted, say};
 use super::progress::Progress;
+use super::recording::Recording;
 use super::records;
-use super::report::plain;
+use super::report::{self, plain_accepted};
 use super::song::Song;
+use super::sound::Format;
 use super::stop::Stop;
 use super::stream::translated;
 use super::words::Words;
 use super::Command;
-use lampthistle::{Answer, TICK_NUMBERS};
+use lampthistle::TICK_NUMBERS;
 
 pub const COMMAND: Command = Command {
     name: "compare",
     options: &["--ticks"],
-    flags: &["--once"],
+    flags: &["--once", "--json"],
     help: "\
-lampthistle compare FILE [--once | --ticks N] [--plain]
+lampthistle compare FILE [--once | --ticks N] [--plain | --json]
+lampthistle compare FILE STREAM [--once | --ticks N] [--plain | --json]
+lampthistle compare FILE SOUND.raw|SOUND.wav [--once | --ticks N] [--plain | --json]
 
-Plays the module's first N ticks, 1,000 without --ticks and 65,535 at most, translates them to a tick stream, plays the stream, and says
-that both sound the same, or where they first differ.
---plain prints NUMBER PLACE COUNT of the stream's play; a difference is told on standard error.
+Plays the module and says that something else sounds the same, number by number, or where they first differ: the tick, and the frame in
+it and from the beginning. The other is
+  without a second file, the board with the module's own stream: of N ticks, 1,000 without --ticks and 65,535 at most;
+  with a STREAM, the board with that stream and the module's samples: all its ticks, or the first N;
+  with a SOUND, a recording of 48,000 frames a second: all of it, or the first N ticks.
+--once takes the ticks until the song comes back to a place where it has been, as info tells.
+--plain prints NUMBER PLACE COUNT, the count in ticks; a difference is told on standard error. --json prints one object.
 
 Example:
   lampthistle compare song.mod --ticks 3000
@@ -35,58 +44,190 @@ Exit status: 0 equal; 1 refused or different; 2 wrong use, or a file that cannot
 
 const TICKS: u32 = 1_000;
 
-fn run(words: &Words) -> Result<bool, Stop> {
-    let [source] = input::read_all(words.files(["FILE"])?)?;
-    let ticks = ticks_asked(words, &source)?.unwrap_or(TICKS);
-    let stream = translated(&source, ticks)?;
-    let name = &source.name;
-    let text = match difference(&source, &stream)? {
-        Some(what) => {
-            Stop::Cannot(format!("{name}: DIFFERENT: {what}")).tell();
-            return Ok(false);
-        }
-        None if words.plain => plain(&Answer {
-            number: 0,
-            place: 0,
-            count: ticks.into(),
-        }),
-        None => {
-            let frames = counted(records::frames(&stream), "frame");
-            let ticks = counted(ticks.into(), "tick");
-            format!("{name}: {ticks}, {frames}: player and board are equal\n")
-        }
-    };
-    say(&text).map(|()| true)
+/// What the player is compared with.
+enum Other<'a> {
+    Board(Board<'a>),
+    Recording(Recording),
 }
 
-/// Plays the module and the stream side by side; the first difference, if there is one.
-fn difference(source: &Source, stream: &[u8]) -> Result<Option<String>, Stop> {
-    let ticks = records::ticks(stream);
-    let mut song = Song::new(&source.bytes);
-    let mut board = Board::new(stream, &source.bytes);
-    let mut progress = Progress::new();
-    for tick in 0..ticks {
-        let Some(own) = board.next()? else {
-            return Ok(Some(format!("tick {tick}: the board plays no more")));
-        };
-        let next = song.next(TICK_NUMBERS);
-        let numbers = next
-            .map_err(|answer| source.refused(answer))?
-            .unwrap_or(&[]);
-        if let Some(k) = (0..own.len().max(numbers.len())).find(|&k| own.get(k) != numbers.get(k)) {
-            let (frame, side) = (k / 2, ["left", "right"][k % 2]);
-            return Ok(Some(format!(
-                "tick {tick}, frame {frame}, {side}: player {}, board {}",
-                number(numbers, k),
-                number(own, k)
-            )));
-        }
-        progress.show("ticks", tick + 1, ticks);
+impl Other<'_> {
+    /// Whether it may end within a tick.
+    fn may_be_cut(&self) -> bool {
+        matches!(self, Other::Recording(_))
     }
-    Ok(None)
+
+    /// The numbers beside a tick of the player that has so many; none after the last.
+    fn next(&mut self, numbers: usize) -> Result<Option<&[i16]>, Stop> {
+        match self {
+            Other::Board(board) => board.next(),
+            Other::Recording(recording) => {
+                let read = recording.next(numbers)?;
+                Ok((!read.is_empty()).then_some(read))
+            }
+        }
+    }
 }
 
-/// A number, or none after the last.
-fn number(numbers: &[i16], k: usize) -> String {
-    numbers.get(k).map_or("none".into(), i16::to_string)
+/// Whole ticks and frames that are equal, and the first difference.
+struct Outcome {
+    ticks: u64,
+    frames: u64,
+    difference: Option<Difference>,
+}
+
+/// Numbers that are not the same, of a frame of the tick; none where one side has no such frame.
+struct Difference {
+    frame: usize,
+    side: &'static str,
+    player: Option<i16>,
+    other: Option<i16>,
+}
+
+fn run(words: &Words) -> Result<bool, Stop> {
+    let second = match words.files.len() {
+        0 | 1 => None,
+        _ => Some(words.files(["FILE", "STREAM or SOUND"])?[1]),
+    };
+    let Some(first) = words.files.first() else {
+        return Err(Stop::Usage("no FILE".into()));
+    };
+    match second.map(|name| (name, Format::of(name))) {
+        None => {
+            let [file] = input::read_all([first])?;
+            let ticks = ticks_asked(words, &file)?;
+            let stream = translated(&file, ticks.unwrap_or(TICKS))?;
+            with_board(words, &file, "board", &stream, ticks)
+        }
+        Some((name, None)) => {
+            let [file, stream] = input::read_all([first, name])?;
+            let _ = board::judge(&stream, &file)?;
+            let ticks = ticks_asked(words, &file)?;
+            with_board(words, &file, &stream.name, &stream.bytes, ticks)
+        }
+        Some((name, Some(format))) => {
+            let [file] = input::read_all([first])?;
+            let _ = file.judge()?;
+            with_recording(words, &file, Recording::open(name, format)?)
+        }
+    }
+}
+
+/// The board plays an accepted stream of this name, all its ticks or the first of them.
+fn with_board(
+    words: &Words,
+    file: &Source,
+    name: &str,
+    stream: &[u8],
+    ticks: Option<u32>,
+) -> Result<bool, Stop> {
+    let all = records::ticks(stream);
+    let ticks = ticks.map_or(all, |ticks| all.min(ticks.into()));
+    let board = Other::Board(Board::new(stream, &file.bytes));
+    tell(words, file, name, &compare(file, board, Some(ticks))?)
+}
+
+fn with_recording(words: &Words, file: &Source, recording: Recording) -> Result<bool, Stop> {
+    let name = recording.name.clone();
+    let ticks = ticks_asked(words, file)?.map(u64::from);
+    let outcome = compare(file, Other::Recording(recording), ticks)?;
+    if outcome.frames == 0 && outcome.difference.is_none() {
+        return Err(Stop::Cannot(format!("{name}: no frame to compare")));
+    }
+    tell(words, file, &name, &outcome)
+}
+
+/// Plays the module beside the other, for so many ticks or until the other ends.
+fn compare(file: &Source, mut other: Other, all: Option<u64>) -> Result<Outcome, Stop> {
+    let mut song = Song::new(&file.bytes);
+    let mut progress = Progress::new();
+    let (mut ticks, mut frames) = (0, 0);
+    let (mut difference, may_be_cut) = (None, other.may_be_cut());
+    while difference.is_none() && all.is_none_or(|all| ticks < all) {
+        let played = song.next(TICK_NUMBERS);
+        let mut player = played
+            .map_err(|answer| file.refused(answer))?
+            .unwrap_or(&[]);
+        let Some(heard) = other.next(player.len())? else {
+            break;
+        };
+        let cut = may_be_cut && heard.len() < player.len();
+        if cut {
+            player = &player[..heard.len()];
+        }
+        difference = first_difference(player, heard);
+        if difference.is_none() {
+            ticks += u64::from(!cut);
+            frames += heard.len() as u64 / 2;
+            progress.show("ticks", ticks, all.unwrap_or(ticks));
+        }
+    }
+    Ok(Outcome {
+        ticks,
+        frames,
+        difference,
+    })
+}
+
+fn first_difference(player: &[i16], other: &[i16]) -> Option<Difference> {
+    let longer = player.len().max(other.len());
+    let k = (0..longer).find(|&k| player.get(k) != other.get(k))?;
+    Some(Difference {
+        frame: k / 2,
+        side: ["left", "right"][k % 2],
+        player: player.get(k).copied(),
+        other: other.get(k).copied(),
+    })
+}
+
+/// Tells how the player and the other of this name compare, and gives whether they are equal.
+fn tell(words: &Words, file: &Source, name: &str, outcome: &Outcome) -> Result<bool, Stop> {
+    let Outcome {
+        ticks,
+        frames,
+        difference,
+    } = outcome;
+    if words.json {
+        say(&json::object(fields(file, name, outcome)))?;
+    } else if let Some(found) = difference {
+        let (own, frame, side) = (&file.name, found.frame, found.side);
+        let [player, other] = [found.player, found.other]
+            .map(|number| number.map_or("none".into(), |number| number.to_string()));
+        let from_begin = frames + frame as u64;
+        Stop::Cannot(format!(
+            "{own}: DIFFERENT: tick {ticks}, frame {frame} ({from_begin} from the beginning), {side}: player {player}, {name} {other}"
+        ))
+        .tell();
+    } else if words.plain {
+        say(&plain_accepted(*ticks))?;
+    } else {
+        let (own, ticks, frames) = (
+            &file.name,
+            counted(*ticks, "tick"),
+            counted(*frames, "frame"),
+        );
+        say(&format!(
+            "{own}: {ticks}, {frames}: player and {name} are equal\n"
+        ))?;
+    }
+    Ok(difference.is_none())
+}
+
+fn fields(file: &Source, name: &str, outcome: &Outcome) -> Fields {
+    let mut fields = report::accepted(&file.name);
+    fields.extend([
+        ("with", name.into()),
+        ("equal", outcome.difference.is_none().into()),
+        ("ticks", outcome.ticks.into()),
+        ("frames", outcome.frames.into()),
+    ]);
+    if let Some(found) = &outcome.difference {
+        fields.extend([
+            ("tick", outcome.ticks.into()),
+            ("frame", found.frame.into()),
+            ("side", found.side.into()),
+            ("player", found.player.into()),
+            ("other", found.other.into()),
+        ]);
+    }
+    fields
 }

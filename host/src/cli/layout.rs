@@ -121,6 +121,14 @@ pub fn played_cells(file: &[u8]) -> impl Iterator<Item = (Spot, Cell)> + '_ {
     places.map(|place| (spot(place), cell(file, place)))
 }
 
+/// A module without notes and samples, where a stream is judged alone.
+pub fn empty() -> Vec<u8> {
+    let mut file = vec![0; PATTERNS + PATTERN_BYTES];
+    file[SONG_LENGTH] = 1;
+    file[TAG].copy_from_slice(b"M.K.");
+    file
+}
+
 /// The module without its samples' bytes: it plays the same ticks (the sequencer's `same-ticks`), with every voice silent, so that a
 /// tick takes little time.
 pub fn silenced(file: &[u8]) -> Vec<u8> {

@@ -14,6 +14,7 @@ mod output;
 mod place;
 mod play;
 mod progress;
+mod recording;
 mod records;
 mod replay;
 mod report;

@@ -25,6 +25,13 @@ pub struct Command {
     pub offset: u8,
 }
 
+impl Command {
+    /// The sample's byte at which a start begins.
+    pub fn start_byte(&self) -> u32 {
+        256 * u32::from(self.offset)
+    }
+}
+
 /// The records from one on.
 #[derive(Clone)]
 pub struct Records<'a> {

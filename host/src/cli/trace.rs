@@ -1,30 +1,36 @@
-//! trace FILE: a line a tick, from the translated stream.
+//! trace FILE: a line a tick, of a module or of a stream.
+use super::input::{self, Source};
+use super::json::{self, Fields, Value};
+use super::layout;
 use super::length::ticks_asked;
 use super::output::say;
-use super::records::{records, Command as Registers, Record};
-use super::report::plain;
+use super::records::{records, Command as Registers, Record, CHANNELS};
+use super::report::plain_accepted;
+use super::song::Song;
 use super::stop::Stop;
 use super::stream::translated;
 use super::words::Words;
-use super::{input, Command};
-use lampthistle::Answer;
+use super::Command;
+use lampthistle::TICK_NUMBERS;
 
 pub const COMMAND: Command = Command {
     name: "trace",
     options: &["--ticks"],
-    flags: &["--once"],
+    flags: &["--once", "--json"],
     help: "\
-lampthistle trace FILE [--once | --ticks N] [--plain]
+lampthistle trace FILE [--once | --ticks N] [--plain | --json]
 
-Shows the first N ticks, 100 without --ticks, a line a tick: its number, the tempo, and each channel's sample, volume and sounded
-period. A * stands before a channel that changes or starts; @ and the byte offset after one that starts.
---plain prints NUMBER PLACE COUNT of the translation, then a line a tick: tick and tempo, and for each channel six numbers: 1 if it
-is in the record, sample, volume, period, start, offset / 256.
+Shows the first N ticks of a module or of a tick stream, 100 without --ticks, a line a tick: its number, the module's position and row,
+the tempo, and each channel's sample, volume and sounded period. A * stands before a channel that changes or starts; @ and the byte
+offset after one that starts. --once shows a module's ticks until it comes back to a place where it has been, as info tells.
+--plain prints NUMBER PLACE COUNT, the count in bytes of the stream, then a line a tick: tick, position, row and tempo, and for each
+channel six numbers: 1 if it is in the record, sample, volume, period, start, offset / 256. A stream has - - for position and row.
+--json prints an object a tick.
 
 Example:
   lampthistle trace song.mod --ticks 4
-   tick tempo   channel 1           channel 2           channel 3           channel 4
-      0   125  * 1 64 428 @0         0  0   0            0  0   0            0  0   0
+   tick  pos row tempo   channel 1           channel 2           channel 3           channel 4
+      0    0   0   125  * 1 64 428 @0         0  0   0            0  0   0            0  0   0
 
 Exit status: 0 accepted; 1 refused; 2 wrong use, or a file that cannot be read.
 ",
@@ -35,18 +41,45 @@ const TICKS: u32 = 100;
 /// Text is written in pieces of about so many bytes.
 const PIECE: usize = 1 << 16;
 
+/// A tick as it is shown.
+struct Tick<'a> {
+    number: usize,
+    /// Position and row of a module.
+    place: Option<(u32, u32)>,
+    record: &'a Record,
+    registers: &'a [Registers; CHANNELS],
+}
+
 fn run(words: &Words) -> Result<bool, Stop> {
     let [source] = input::read_all(words.files(["FILE"])?)?;
-    let ticks = ticks_asked(words, &source)?.unwrap_or(TICKS);
-    let stream = translated(&source, ticks)?;
+    let (stream, mut song, ticks) = if is_stream(&source)? {
+        if words.has("--once") {
+            return Err(Stop::Usage("--once: a stream has no places".into()));
+        }
+        let ticks = ticks_asked(words, &source)?.unwrap_or(TICKS);
+        (source.bytes.clone(), None, ticks)
+    } else {
+        let ticks = ticks_asked(words, &source)?.unwrap_or(TICKS);
+        let song = Song::silent(&source.bytes);
+        (translated(&source, ticks)?, Some(song), ticks)
+    };
     let mut text = heading(words, stream.len() as u64);
-    let mut registers = [Registers::default(); 4];
-    for (tick, record) in records(&stream).enumerate() {
+    let mut registers = [Registers::default(); CHANNELS];
+    for (number, record) in records(&stream).take(ticks as usize).enumerate() {
         for (register, command) in registers.iter_mut().zip(&record.commands) {
             *register = command.unwrap_or(*register);
         }
-        text += &tick_line(words, tick, &record, &registers);
-        text.push('\n');
+        let place = song.as_mut().map(|song| step(song, &source)).transpose()?;
+        text += &line(
+            words,
+            &source,
+            &Tick {
+                number,
+                place,
+                record: &record,
+                registers: &registers,
+            },
+        );
         if text.len() > PIECE {
             say(&text)?;
             text.clear();
@@ -55,54 +88,84 @@ fn run(words: &Words) -> Result<bool, Stop> {
     say(&text).map(|()| true)
 }
 
-fn tick_line(words: &Words, tick: usize, record: &Record, registers: &[Registers; 4]) -> String {
-    let tempo = record.tempo;
-    let mut line = if words.plain {
-        format!("{tick} {tempo}")
-    } else {
-        format!("{tick:>5} {tempo:>5}")
-    };
-    for (channel, own) in registers.iter().enumerate() {
-        let show = if words.plain { bare } else { marked };
-        line += &show(record, channel, own);
+/// Whether a file that is not accepted as a module is a stream. It is one by its length, which a stream tells, or by its name.
+fn is_stream(source: &Source) -> Result<bool, Stop> {
+    const NOT_BY_LENGTH: u64 = 21;
+    if lampthistle::judge(&source.bytes).is_accepted() {
+        return Ok(false);
     }
-    line.truncate(line.trim_end().len());
-    line
+    let answer = lampthistle::play_stream(&source.bytes, &layout::empty(), &mut []);
+    if answer.number == NOT_BY_LENGTH && !source.name.ends_with(".stream") {
+        return source.judge().map(|_| false);
+    }
+    if !answer.is_accepted() {
+        return Err(source.refused(answer));
+    }
+    Ok(true)
+}
+
+/// The position and row of the next tick, which is played.
+fn step(song: &mut Song, source: &Source) -> Result<(u32, u32), Stop> {
+    let place = (song.state.position(), song.state.row());
+    let played = song.next(TICK_NUMBERS);
+    played.map_err(|answer| source.refused(answer))?;
+    Ok(place)
+}
+
+fn line(words: &Words, source: &Source, tick: &Tick) -> String {
+    if words.json {
+        return json::object(fields(source, tick));
+    }
+    let (number, tempo) = (tick.number, tick.record.tempo);
+    let show = if words.plain { bare } else { marked };
+    let [position, row] = match tick.place {
+        Some((position, row)) => [position.to_string(), row.to_string()],
+        None => ["-".into(), "-".into()],
+    };
+    let mut line = if words.plain {
+        format!("{number} {position} {row} {tempo}")
+    } else {
+        format!("{number:>5} {position:>4} {row:>3} {tempo:>5}")
+    };
+    for channel in 0..CHANNELS {
+        line += &show(tick, channel);
+    }
+    line.trim_end().to_string() + "\n"
 }
 
 fn heading(words: &Words, bytes: u64) -> String {
-    if words.plain {
-        return plain(&Answer {
-            number: 0,
-            place: 0,
-            count: bytes,
-        });
+    if words.json {
+        return String::new();
     }
-    let mut text = String::from(" tick tempo");
-    for channel in 1..=4 {
+    if words.plain {
+        return plain_accepted(bytes);
+    }
+    let mut text = String::from(" tick  pos row tempo");
+    for channel in 1..=CHANNELS {
         text += &format!("   channel {channel:<9}");
     }
     text.trim_end().to_string() + "\n"
 }
 
-fn marked(record: &Record, channel: usize, registers: &Registers) -> String {
+fn marked(tick: &Tick, channel: usize) -> String {
     let Registers {
         sample,
         volume,
         period,
         ..
-    } = registers;
-    let command = record.commands[channel];
+    } = tick.registers[channel];
+    let command = tick.record.commands[channel];
     let mark = if command.is_some() { '*' } else { ' ' };
     let start = match command {
-        Some(command) if command.start => format!("@{}", 256 * u32::from(command.offset)),
+        Some(command) if command.start => format!("@{}", command.start_byte()),
         _ => String::new(),
     };
     format!("  {mark}{sample:>2} {volume:>2} {period:>3} {start:<7}")
 }
 
-fn bare(record: &Record, channel: usize, registers: &Registers) -> String {
-    let command = record.commands[channel];
+fn bare(tick: &Tick, channel: usize) -> String {
+    let command = tick.record.commands[channel];
+    let registers = tick.registers[channel];
     let (start, offset) = command.map_or((false, 0), |command| (command.start, command.offset));
     format!(
         " {} {} {} {} {} {offset}",
@@ -112,4 +175,29 @@ fn bare(record: &Record, channel: usize, registers: &Registers) -> String {
         registers.period,
         u8::from(start),
     )
+}
+
+fn fields(source: &Source, tick: &Tick) -> Fields {
+    let channels = (0..CHANNELS).map(|channel| -> Fields {
+        let (command, registers) = (tick.record.commands[channel], tick.registers[channel]);
+        let start = command.filter(|command| command.start);
+        vec![
+            ("changed", command.is_some().into()),
+            ("sample", registers.sample.into()),
+            ("volume", registers.volume.into()),
+            ("period", registers.period.into()),
+            (
+                "starts_at",
+                start.map(|command| command.start_byte()).into(),
+            ),
+        ]
+    });
+    vec![
+        ("file", source.name.as_str().into()),
+        ("tick", tick.number.into()),
+        ("position", tick.place.map(|(position, _)| position).into()),
+        ("row", tick.place.map(|(_, row)| row).into()),
+        ("tempo", tick.record.tempo.into()),
+        ("channels", Value::list(channels)),
+    ]
 }

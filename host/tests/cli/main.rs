@@ -1,6 +1,7 @@
 //! The command line, run as a person or a script runs it.
 mod commands;
 mod common;
+mod compares;
 mod outputs;
 mod robust;
 mod songs;

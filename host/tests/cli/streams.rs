@@ -109,16 +109,47 @@ fn pieces_join() {
 fn trace_marks_what_changes() {
     let (status, out, _) = told(&["trace", "--plain", "--ticks", "2", &stored("effects")]);
     let lines = "0 0 31\n\
-        0 255 1 1 64 428 1 0 1 2 32 285 1 0 0 0 0 0 0 0 0 0 0 0 0 0\n\
-        1 255 1 1 64 339 0 0 0 2 32 285 0 0 0 0 0 0 0 0 0 0 0 0 0 0\n";
+        0 0 0 255 1 1 64 428 1 0 1 2 32 285 1 0 0 0 0 0 0 0 0 0 0 0 0 0\n\
+        1 0 0 255 1 1 64 339 0 0 0 2 32 285 0 0 0 0 0 0 0 0 0 0 0 0 0 0\n";
     assert_eq!((status, out.as_str()), (0, lines));
-    let (_, out, _) = told(&["trace", "--ticks", "2", &stored("effects")]);
+    let (_, out, _) = told(&["trace", "--ticks", "4", &stored("effects")]);
     assert!(
-        out.contains("    0   255  * 1 64 428 @0       * 2 32 285 @0         0  0   0"),
+        out.contains("    0    0   0   255  * 1 64 428 @0       * 2 32 285 @0         0  0   0"),
         "{out}"
     );
     assert!(
-        out.contains("    1   255  * 1 64 339            2 32 285  "),
+        out.contains("    1    0   0   255  * 1 64 339            2 32 285  "),
         "{out}"
     );
+    assert!(out.contains("    3    0   1   255 "), "{out}");
+}
+
+#[test]
+fn trace_shows_a_stream() {
+    let module = stored("effects");
+    let stream = translated(&module, "9", "shown.stream");
+    let lines = |file: &str| told(&["trace", "--plain", "--ticks", "2", file]).1;
+    let (own, other) = (lines(&module), lines(&stream));
+    let bytes = std::fs::read(&stream).unwrap().len();
+    assert!(
+        other.starts_with(&format!("0 0 {bytes}\n0 - - 255 1 1 64 428")),
+        "{other}"
+    );
+    // The same registers, without a place.
+    let registers = |text: &str| -> Vec<String> {
+        let lines = text.lines().skip(1);
+        lines
+            .map(|line| line.splitn(4, ' ').nth(3).unwrap().to_string())
+            .collect()
+    };
+    assert_eq!(registers(&own), registers(&other));
+    let mut bytes = std::fs::read(&stream).unwrap();
+    bytes[4] = 2;
+    std::fs::write(&stream, &bytes).unwrap();
+    assert_eq!(told(&["trace", "--plain", &stream]).1, "22 4 0\n");
+    std::fs::write(&stream, &bytes[..8]).unwrap();
+    assert_eq!(told(&["trace", "--plain", &stream]).1, "21 8 0\n");
+    let (status, _, err) = told(&["trace", &translated(&module, "9", "once.shown"), "--once"]);
+    assert_eq!(status, 2);
+    assert!(err.contains("a stream has no places"), "{err}");
 }

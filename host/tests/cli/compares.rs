@@ -1,0 +1,114 @@
+//! The player against a given stream and against recordings.
+use crate::common::{own, stored, told};
+
+fn path(name: &str) -> String {
+    own(name).to_str().unwrap().into()
+}
+
+/// The first 20 ticks of a stored module, of 470 frames each, as a file of this name.
+fn played(name: &str) -> String {
+    let out = path(name);
+    let words = ["play", &stored("effects"), "--ticks", "20", "--out", &out];
+    assert_eq!(told(&words).0, 0);
+    out
+}
+
+/// Changes bytes of a file.
+fn change(name: &str, with: impl FnOnce(&mut Vec<u8>)) {
+    let mut bytes = std::fs::read(name).unwrap();
+    with(&mut bytes);
+    std::fs::write(name, bytes).unwrap();
+}
+
+#[test]
+fn a_stream_is_compared() {
+    let module = &stored("effects");
+    let stream = &path("given.stream");
+    let words = ["translate", module, "--ticks", "20", "--out", stream];
+    assert_eq!(told(&words).0, 0);
+    let (status, out, _) = told(&["compare", module, stream]);
+    let line = format!("{module}: 20 ticks, 9400 frames: player and {stream} are equal\n");
+    assert_eq!((status, out), (0, line));
+    // The first command's volume.
+    change(stream, |bytes| bytes[12] -= 1);
+    let (status, out, err) = told(&["compare", module, stream]);
+    assert_eq!((status, out.as_str()), (1, ""));
+    assert!(err.contains(": DIFFERENT: tick 0, frame "), "{err}");
+    // The second tick's tempo: 472 frames in place of 470.
+    change(stream, |bytes| {
+        bytes[12] += 1;
+        bytes[24] = 254;
+    });
+    let (_, _, err) = told(&["compare", module, stream]);
+    let line = "tick 1, frame 470 (940 from the beginning), left: player none, ";
+    assert!(err.contains(line), "{err}");
+    assert_eq!(told(&["compare", module, stream, "--ticks", "1"]).0, 0);
+    change(stream, |bytes| bytes[4] = 2);
+    let (status, out, _) = told(&["compare", module, stream, "--plain"]);
+    assert_eq!((status, out.as_str()), (1, "22 4 0\n"));
+}
+
+#[test]
+fn a_recording_is_compared() {
+    let module = &stored("effects");
+    for name in ["given.raw", "given.wav"] {
+        let sound = &played(name);
+        let start = if name.ends_with("wav") { 44 } else { 0 };
+        let (status, out, _) = told(&["compare", module, sound]);
+        let line = format!("{module}: 20 ticks, 9400 frames: player and {sound} are equal\n");
+        assert_eq!((status, out), (0, line));
+        // The right number of frame 3 of tick 2.
+        change(sound, |bytes| bytes[start + 4 * (2 * 470 + 3) + 2] ^= 1);
+        let (status, _, err) = told(&["compare", module, sound]);
+        assert_eq!(status, 1);
+        let line = "DIFFERENT: tick 2, frame 3 (943 from the beginning), right: player ";
+        assert!(err.contains(line), "{err}");
+        assert_eq!(told(&["compare", module, sound, "--ticks", "2"]).0, 0);
+    }
+}
+
+#[test]
+fn a_recording_may_end_within_a_tick() {
+    let module = &stored("effects");
+    let sound = &played("short.raw");
+    change(sound, |bytes| bytes.truncate(4 * 1000));
+    let (status, out, _) = told(&["compare", module, sound]);
+    let line = format!("{module}: 2 ticks, 1000 frames: player and {sound} are equal\n");
+    assert_eq!((status, out), (0, line));
+}
+
+#[test]
+fn recordings_that_are_none_are_told() {
+    let module = &stored("effects");
+    let stops = |name: &str, reason: &str| {
+        let (status, out, err) = told(&["compare", module, name]);
+        assert_eq!((status, out.as_str()), (2, ""), "{reason}");
+        assert!(err.contains(reason), "{err}");
+    };
+    let raw = &played("none.raw");
+    change(raw, |bytes| bytes.truncate(4 * 1000 + 3));
+    stops(raw, "ends within a frame");
+    change(raw, Vec::clear);
+    stops(raw, "no frame to compare");
+    let wav = &played("none.wav");
+    change(wav, |bytes| bytes.truncate(44 + 4 * 1000));
+    stops(wav, "is cut: 33600 bytes of its sound are not there");
+    change(wav, |bytes| bytes[24] = 0x44);
+    stops(wav, "is not 48000 frames a second");
+    change(wav, |bytes| bytes[0] = b'r');
+    stops(wav, "is not a .wav file");
+    stops("no/such.wav", "no/such.wav: No such file");
+}
+
+#[test]
+fn a_recording_with_an_open_length_goes_to_its_end() {
+    let wav = &played("open.wav");
+    // As pipes get it; with a part before the sound that says something else.
+    change(wav, |bytes| {
+        bytes[40..44].fill(0xFF);
+        let part = b"note\x03\0\0\0abc\0";
+        bytes.splice(12..12, part.iter().copied());
+    });
+    let (status, out, _) = told(&["compare", &stored("effects"), wav, "--plain"]);
+    assert_eq!((status, out.as_str()), (0, "0 0 20\n"));
+}
