@@ -3,13 +3,12 @@ use super::input::{self, Source};
 use super::length::Length;
 use super::output::tell;
 use super::progress::Progress;
-use super::report::plain;
+use super::report::plain_accepted;
 use super::song::Song;
 use super::sound::{self, check_room, Sound};
 use super::stop::Stop;
 use super::words::Words;
 use super::{output, Command};
-use lampthistle::Answer;
 
 pub const COMMAND: Command = Command {
     name: "play",
@@ -38,17 +37,14 @@ fn run(words: &Words) -> Result<bool, Stop> {
     let out = words.needed("--out")?;
     sound::format(out)?;
     let [source] = input::read_all(words.files(["FILE"])?)?;
-    let judged = source.judge()?;
+    let _ = source.judge()?;
     let length = asked.length(&source)?;
     check_room(out, length.most(), |room| frames_of(&source, length, room))?;
     let mut sound = Sound::create(out, &[&source])?;
     let (ticks, frames) = render(&source, length, &mut sound)?;
     sound.finish()?;
     let text = if words.plain {
-        plain(&Answer {
-            count: ticks,
-            ..judged
-        })
+        plain_accepted(ticks)
     } else {
         output::played(&source.name, ticks, frames)
     };

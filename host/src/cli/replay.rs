@@ -1,21 +1,22 @@
 //! replay FILE SCRIPT: runs a trial again, records it, or checks its record.
 use super::input::{self, Source};
+use super::json::{self, Fields};
 use super::output::{self, counted, write_bytes};
-use super::report::plain;
+use super::report::{self, plain_accepted};
 use super::script::{self, Call, Results, Script};
 use super::sound::{self, check_room, Sound};
 use super::stop::Stop;
 use super::trial::Trial;
 use super::words::Words;
 use super::Command;
-use lampthistle::{Answer, State, TICK_NUMBERS};
+use lampthistle::{State, TICK_NUMBERS};
 
 pub const COMMAND: Command = Command {
     name: "replay",
     options: &["--out", "--record"],
-    flags: &["--check"],
+    flags: &["--check", "--json"],
     help: "\
-lampthistle replay FILE SCRIPT [--out OUT] [--record RECORD | --check] [--plain]
+lampthistle replay FILE SCRIPT [--out OUT] [--record RECORD | --check] [--plain | --json]
 
 Runs a trial again, from a fresh state. A line of SCRIPT is one call:
   play N                     plays N ticks
@@ -26,7 +27,8 @@ changes nothing, and the trial goes on: a trial that ran ends with 0.
 --record writes the script again to RECORD, with the module's checksum, and for each call its answer, the clock and a checksum of the
 frames so far (docs/FORMATS.md). A record is a script, too.
 --check plays a record, and says that every answer and checksum came again, or which line differs first and how.
---plain prints NUMBER PLACE COUNT CLOCK PAGE POSITION ROW TICK a call; with --check NUMBER PLACE COUNT, the count in calls.
+--plain prints NUMBER PLACE COUNT CLOCK PAGE POSITION ROW TICK a call; with --check NUMBER PLACE COUNT, the count in calls. --json
+prints an object a call; with --check one.
 
 Examples:
   lampthistle replay song.mod trial.txt --record trial.record
@@ -65,15 +67,11 @@ fn run(words: &Words) -> Result<bool, Stop> {
     };
     let mut trial = Trial::new(&source.bytes, sound);
     if words.has("--check") {
-        let text = match check(&mut trial, &source, &script, &text.name)? {
-            Some(what) => {
-                Stop::Cannot(format!("{}:{what}", text.name)).tell();
-                return Ok(false);
-            }
-            None => checked(words, &text.name, &script),
-        };
-        trial.finish()?;
-        return output::tell(words, &text).map(|()| true);
+        let differs = check(&mut trial, &source, &script, &text.name)?;
+        if differs.is_none() {
+            trial.finish()?;
+        }
+        return checked(words, &text.name, &script, differs);
     }
     let recorded = replay(words, &mut trial, &source, &script)?;
     trial.finish()?;
@@ -117,7 +115,8 @@ fn replay(
         let results = match &line.call {
             Some((call, _)) => {
                 let results = trial.call(call)?;
-                output::tell(words, &told(words, call, &results, trial.state()))?;
+                let text = told(words, &source.name, call, &results, trial.state());
+                output::tell(words, &text)?;
                 Some(results)
             }
             None => None,
@@ -127,20 +126,23 @@ fn replay(
     Ok(recorded)
 }
 
-/// Runs a record's calls; the first line that differs, and how.
+/// A record's line that differs, and how.
+type Differs = (usize, String);
+
+/// Runs a record's calls; the first line that differs.
 fn check(
     trial: &mut Trial,
     source: &Source,
     script: &Script,
     name: &str,
-) -> Result<Option<String>, Stop> {
+) -> Result<Option<Differs>, Stop> {
     let no_record = |what: &str| Stop::Cannot(format!("{name}{what}"));
     let Some((number, recorded)) = script.module else {
         return Err(no_record(": not a record: it names no module"));
     };
     let own = script::module_sum(&source.bytes);
     if own != recorded {
-        return Ok(Some(format!("{number}: module {own}, recorded {recorded}")));
+        return Ok(Some((number, format!("module {own}, recorded {recorded}"))));
     }
     for line in &script.lines {
         let Some((call, recorded)) = &line.call else {
@@ -152,37 +154,58 @@ fn check(
         };
         let results = trial.call(call)?;
         if let Some(what) = results.difference(recorded) {
-            return Ok(Some(format!("{number}: {call}: {what}")));
+            return Ok(Some((number, format!("{call}: {what}"))));
         }
     }
     Ok(None)
 }
 
-fn checked(words: &Words, name: &str, script: &Script) -> String {
-    let calls = script.calls().count() as u64;
-    if words.plain {
-        return plain(&Answer {
-            number: 0,
-            place: 0,
-            count: calls,
-        });
-    }
-    let (calls, ticks) = (counted(calls, "call"), counted(ticks(script), "tick"));
-    format!("{name}: {calls}, {ticks}: every answer and checksum came again\n")
+/// Tells whether a record came again, and gives it.
+fn checked(
+    words: &Words,
+    name: &str,
+    script: &Script,
+    differs: Option<Differs>,
+) -> Result<bool, Stop> {
+    let (calls, ticks) = (script.calls().count() as u64, ticks(script));
+    let again = differs.is_none();
+    let text = match differs {
+        differs if words.json => {
+            let (line, how) = differs.unzip();
+            json::object(vec![
+                ("file", name.into()),
+                ("came_again", again.into()),
+                ("calls", calls.into()),
+                ("ticks", ticks.into()),
+                ("line", line.into()),
+                ("difference", how.into()),
+            ])
+        }
+        Some((line, how)) => {
+            Stop::Cannot(format!("{name}:{line}: {how}")).tell();
+            return Ok(false);
+        }
+        None if words.plain => plain_accepted(calls),
+        None => {
+            let (calls, ticks) = (counted(calls, "call"), counted(ticks, "tick"));
+            format!("{name}: {calls}, {ticks}: every answer and checksum came again\n")
+        }
+    };
+    output::tell(words, &text).map(|()| again)
 }
 
 /// A call's line.
-fn told(words: &Words, call: &Call, results: &Results, state: &State) -> String {
+fn told(words: &Words, file: &str, call: &Call, results: &Results, state: &State) -> String {
+    if words.json {
+        return json::object(fields(file, call, results, state));
+    }
     let answer = &results.answer;
     let (clock, page) = (state.clock(), state.page());
     let (position, row, tick) = (state.position(), state.row(), state.tick());
     if words.plain {
-        let Answer {
-            number,
-            place,
-            count,
-        } = answer;
-        return format!("{number} {place} {count} {clock} {page} {position} {row} {tick}\n");
+        let bare = report::plain(answer);
+        let bare = bare.trim_end();
+        return format!("{bare} {clock} {page} {position} {row} {tick}\n");
     }
     let played = match call {
         Call::Play(_) if answer.is_accepted() => format!(", {}", counted(answer.count, "tick")),
@@ -191,4 +214,19 @@ fn told(words: &Words, call: &Call, results: &Results, state: &State) -> String 
     format!(
         "{call}: {answer}{played}; clock {clock}, page {page}, position {position}, row {row}, tick {tick}\n"
     )
+}
+
+fn fields(file: &str, call: &Call, results: &Results, state: &State) -> Fields {
+    let mut fields = report::answered(file, &results.answer);
+    fields.extend([
+        ("count", results.answer.count.into()),
+        ("call", call.to_string().into()),
+        ("clock", state.clock().into()),
+        ("page", state.page().into()),
+        ("position", state.position().into()),
+        ("row", state.row().into()),
+        ("tick", state.tick().into()),
+        ("sound", results.sound.to_string().into()),
+    ]);
+    fields
 }

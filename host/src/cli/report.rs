@@ -35,12 +35,13 @@ fn refusal_fields(refusal: &Refusal) -> Fields {
     fields
 }
 
-/// The first fields of an accepted file's object.
+/// The same of a file that is accepted.
 pub fn accepted(name: &str) -> Fields {
     answered(name, &ACCEPTED)
 }
 
-fn answered(name: &str, answer: &Answer) -> Fields {
+/// The first fields of an answer's object.
+pub fn answered(name: &str, answer: &Answer) -> Fields {
     vec![
         ("file", name.into()),
         ("number", answer.number.into()),

@@ -5,12 +5,11 @@ use super::length::ticks_asked;
 use super::output::{self, check_terminal, counted, tell, write_bytes};
 use super::progress::Progress;
 use super::records;
-use super::report::plain;
+use super::report::plain_accepted;
 use super::sound::{self, check_room, Sound};
 use super::stop::Stop;
 use super::words::Words;
 use super::Command;
-use lampthistle::Answer;
 
 pub const TRANSLATE: Command = Command {
     name: "translate",
@@ -60,7 +59,7 @@ fn run_translate(words: &Words) -> Result<bool, Stop> {
     write_bytes(out, &[&source], &stream)?;
     let bytes = stream.len();
     let text = if words.plain {
-        format!("0 0 {bytes}\n")
+        plain_accepted(bytes as u64)
     } else {
         let ticks = counted(ticks.into(), "tick");
         format!("{}: {ticks} in {bytes} bytes\n", source.name)
@@ -87,7 +86,7 @@ fn run_board(words: &Words) -> Result<bool, Stop> {
     let out = words.needed("--out")?;
     sound::format(out)?;
     let [stream, file] = input::read_all(words.files(["STREAM", "FILE"])?)?;
-    let judged = board::judge(&stream, &file)?;
+    let _ = board::judge(&stream, &file)?;
     let (ticks, frames) = (
         records::ticks(&stream.bytes),
         records::frames(&stream.bytes),
@@ -104,7 +103,7 @@ fn run_board(words: &Words) -> Result<bool, Stop> {
     drop(progress);
     sound.finish()?;
     let text = if words.plain {
-        plain(&Answer { count, ..judged })
+        plain_accepted(count)
     } else {
         output::played(&stream.name, count, frames)
     };

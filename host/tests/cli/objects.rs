@@ -1,0 +1,111 @@
+//! The objects of --json.
+use crate::common::{own, quiet, stored, told};
+
+/// Runs with --json and gives the status and the lines.
+fn lines(words: &[&str]) -> (i32, Vec<String>) {
+    let (status, out, _) = told(&[words, &["--json"]].concat());
+    (status, out.lines().map(String::from).collect())
+}
+
+#[test]
+fn judge_prints_an_object_a_file() {
+    let good = quiet("object.mod", &[]);
+    let bad = quiet("bad \"object\".mod", &[3, 0x59, 0, 0]);
+    let (status, lines) = lines(&["judge", "--notes", &good, "no/such", &bad]);
+    assert_eq!(status, 2);
+    let bad = bad.replace('"', "\\\"");
+    let meaning = "a cell's period is neither 0 nor 113 to 856";
+    assert_eq!(
+        lines,
+        [
+            format!(r#"{{"file":"{good}","number":0,"place":0,"meaning":"accepted","notes":[]}}"#),
+            r#"{"file":"no/such","error":"No such file or directory"}"#.into(),
+            format!(
+                r#"{{"file":"{bad}","number":9,"place":1084,"meaning":"{meaning}","pattern":0,"row":0,"channel":1,"period":857}}"#
+            ),
+        ]
+    );
+}
+
+#[test]
+fn info_prints_one_object() {
+    let name = quiet("info_object.mod", &[0, 0, 0x04, 0x11]);
+    let (status, lines) = lines(&["info", &name]);
+    let parts = [
+        format!(r#"{{"file":"{name}","number":0,"place":0,"meaning":"accepted","title":"","#),
+        r#""song_length":1,"patterns":1,"table":[0],"ticks":384,"frames":368640,"#.into(),
+        r#""comes_back_to":{"position":0,"row":0},"samples":[],"#.into(),
+        r#""notes":[{"effect":"4","name":"vibrato","cells":1,"pattern":0,"row":0,"channel":1}]}"#
+            .into(),
+    ];
+    assert_eq!((status, lines), (0, vec![parts.concat()]));
+    let (_, lines) = self::lines(&["info", &stored("edges")]);
+    let sample = r#""samples":[{"sample":1,"name":"","bytes":12,"volume":64,"finetune":0,"loop_start":4,"loop_length":6},"#;
+    assert!(lines[0].contains(sample), "{}", lines[0]);
+}
+
+#[test]
+fn trace_prints_an_object_a_tick() {
+    let (status, lines) = lines(&["trace", &stored("effects"), "--ticks", "2"]);
+    assert_eq!((status, lines.len()), (0, 2));
+    let name = stored("effects");
+    let start =
+        format!(r#"{{"file":"{name}","tick":0,"position":0,"row":0,"tempo":255,"channels":["#);
+    let channel = r#"{"changed":true,"sample":1,"volume":64,"period":428,"starts_at":0},"#;
+    assert!(lines[0].starts_with(&(start + channel)), "{}", lines[0]);
+    let end = r#"{"changed":false,"sample":0,"volume":0,"period":0,"starts_at":null}]}"#;
+    assert!(lines[1].ends_with(end), "{}", lines[1]);
+}
+
+#[test]
+fn replay_prints_an_object_a_call() {
+    let script = own("object.txt");
+    std::fs::write(&script, "play 5\ntouch 1 5 0\n").unwrap();
+    let (script, name) = (script.to_str().unwrap(), stored("flow"));
+    let (status, lines) = lines(&["replay", &name, script]);
+    let line = format!(
+        r#"{{"file":"{name}","number":16,"place":0,"meaning":"the touch was made on another page","count":0,"call":"touch 1 5 0","clock":5,"page":0,"position":0,"row":1,"tick":2,"sound":""#
+    );
+    assert_eq!((status, lines.len()), (0, 2));
+    assert!(lines[1].starts_with(&line), "{}", lines[1]);
+    let record = own("object.record");
+    let record = record.to_str().unwrap();
+    assert_eq!(told(&["replay", &name, script, "--record", record]).0, 0);
+    let (status, lines) = self::lines(&["replay", &name, record, "--check"]);
+    let line = format!(
+        r#"{{"file":"{record}","came_again":true,"calls":2,"ticks":5,"line":null,"difference":null}}"#
+    );
+    assert_eq!((status, lines), (0, vec![line]));
+    let text = std::fs::read_to_string(record).unwrap();
+    std::fs::write(record, text.replace("= 16 0", "= 17 0")).unwrap();
+    let (status, lines) = self::lines(&["replay", &name, record, "--check"]);
+    let end = r#""line":5,"difference":"touch 1 5 0: number 16, recorded 17"}"#;
+    assert!(status == 1 && lines[0].ends_with(end), "{}", lines[0]);
+}
+
+#[test]
+fn compare_prints_one_object() {
+    let name = stored("effects");
+    let (status, lines) = lines(&["compare", &name, "--ticks", "20"]);
+    let line = format!(
+        r#"{{"file":"{name}","number":0,"place":0,"meaning":"accepted","with":"board","equal":true,"ticks":20,"frames":9400}}"#
+    );
+    assert_eq!((status, lines), (0, vec![line]));
+    let sound = own("object.raw");
+    std::fs::write(&sound, [1, 0, 0, 0]).unwrap();
+    let (status, lines) = self::lines(&["compare", &name, sound.to_str().unwrap()]);
+    let end = r#""equal":false,"ticks":0,"frames":0,"tick":0,"frame":0,"side":"left","player":0,"other":1}"#;
+    assert!(status == 1 && lines[0].ends_with(end), "{}", lines[0]);
+}
+
+#[test]
+fn a_refusal_is_an_object_too() {
+    for command in ["info", "trace", "compare"] {
+        let (status, lines) = lines(&[command, "/dev/null"]);
+        let line = r#"{"file":"/dev/null","number":1,"place":0,"meaning":"the file is shorter than 1,084 bytes"}"#;
+        assert_eq!((status, lines), (1, vec![line.to_string()]), "{command}");
+    }
+    let (status, _, err) = told(&["judge", "--plain", "--json", "x"]);
+    assert_eq!(status, 2);
+    assert!(err.contains("exclude each other"));
+}
