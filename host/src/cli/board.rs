@@ -27,6 +27,8 @@ type Start<'a> = (u64, Records<'a>);
 /// An accepted stream that is being played.
 pub struct Board<'a> {
     file: &'a [u8],
+    /// The numbers of a piece at least, but for the last.
+    piece: usize,
     /// The next tick, and the records from it on.
     tick: u64,
     ahead: Records<'a>,
@@ -39,8 +41,13 @@ pub struct Board<'a> {
 
 impl<'a> Board<'a> {
     pub fn new(stream: &'a [u8], file: &'a [u8]) -> Board<'a> {
+        Board::in_pieces(PIECE_NUMBERS, stream, file)
+    }
+
+    fn in_pieces(piece: usize, stream: &'a [u8], file: &'a [u8]) -> Board<'a> {
         Board {
             file,
+            piece,
             tick: 0,
             ahead: records::records(stream),
             started: [const { None }; CHANNELS],
@@ -66,7 +73,7 @@ impl<'a> Board<'a> {
     fn play_piece(&mut self) -> Result<(), Stop> {
         let mut piece = records::Writer::new();
         let run_up = self.write_run_up(&mut piece);
-        let lengths = self.write_ticks(&mut piece, run_up.max(PIECE_NUMBERS));
+        let lengths = self.write_ticks(&mut piece, run_up.max(self.piece));
         let all = run_up + lengths.iter().sum::<usize>();
         reserve(&mut self.numbers, all)?;
         let (stream, ticks) = piece.finish();
@@ -133,4 +140,38 @@ fn reserve(numbers: &mut Vec<i16>, all: usize) -> Result<(), Stop> {
     }
     numbers.resize(all, 0);
     Ok(())
+}
+
+#[cfg(test)]
+mod tests {
+    use super::*;
+    use std::path::Path;
+
+    /// A stored module, and the stream of its first ticks.
+    fn stored(name: &str, ticks: u32) -> (Vec<u8>, Vec<u8>) {
+        let root = Path::new(env!("CARGO_MANIFEST_DIR")).join("..");
+        let file = std::fs::read(root.join("crates/play_cases/data").join(name)).unwrap();
+        let mut stream = vec![0; 9 + 26 * ticks as usize];
+        let bytes = lampthistle::translate(&file, ticks, &mut stream).count;
+        stream.truncate(bytes as usize);
+        (file, stream)
+    }
+
+    #[test]
+    fn pieces_of_any_size_are_the_whole() {
+        for name in ["effects", "flow", "edges"] {
+            let (file, stream) = stored(name, 400);
+            let mut whole = vec![0; 2 * records::frames(&stream) as usize];
+            let answer = lampthistle::play_stream(&stream, &file, &mut whole);
+            assert_eq!(answer.count, 400);
+            for piece in [1, 941, 5_000, 100_000] {
+                let mut board = Board::in_pieces(piece, &stream, &file);
+                let mut joined = Vec::new();
+                while let Ok(Some(numbers)) = board.next() {
+                    joined.extend_from_slice(numbers);
+                }
+                assert!(joined == whole, "{name} in pieces of {piece}");
+            }
+        }
+    }
 }

@@ -57,20 +57,21 @@ const HELP: &str = "\
 lampthistle: plays four-channel ProTracker modules (M.K.) with the proved library
 
   lampthistle judge FILE..                         whether each file is a module that can be played
-  lampthistle info FILE                            title, song, patterns and samples
+  lampthistle info FILE                            title, song, patterns and samples, and how long it plays
   lampthistle play FILE --out OUT                  renders the module to OUT (.wav, .raw or -)
   lampthistle translate FILE --ticks N --out OUT   writes the tick stream of the first N ticks
   lampthistle board STREAM FILE --out OUT          plays a tick stream with the module's samples
-  lampthistle trace FILE                           a line a tick: tempo and the channels' registers
-  lampthistle replay FILE SCRIPT                   runs a trial record again: play, touch, page
-  lampthistle compare FILE                         plays the module and its stream and compares them
-  lampthistle COMMAND --help                       more on a command, with an example
+  lampthistle trace FILE                           a line a tick of a module or a stream
+  lampthistle replay FILE SCRIPT                   runs a trial again, records it, or checks its record
+  lampthistle compare FILE [STREAM | SOUND]        the player against the board, a stream or a recording
+  lampthistle help COMMAND                         more on a command, with an example
   lampthistle --version
 
-A file named - is standard input. --plain prints bare numbers: NUMBER PLACE COUNT, with number 0 for accepted.
+A file named - is standard input. --plain prints bare numbers: NUMBER PLACE COUNT, with number 0 for accepted; --json prints an object a
+line. -o is --out, and --out=OUT is --out OUT.
 
 Example:
-  lampthistle play song.mod --seconds 30 --out song.wav
+  lampthistle play song.mod --once --out song.wav
 
 Exit status: 0 accepted; 1 refused or different; 2 wrong use, or a file that cannot be read or written.
 ";
