@@ -74,12 +74,12 @@ impl Target {
     }
 }
 
-/// A new file beside the one with this name.
+/// A new file beside the one with this name: NAME.0.part, or the next number that is free.
 fn beside(finished: PathBuf) -> io::Result<(File, Part)> {
     let own = finished.file_name().unwrap_or_default();
     for k in 0.. {
         let mut name = own.to_os_string();
-        name.push(format!(".{}-{k}.part", std::process::id()));
+        name.push(format!(".{k}.part"));
         let beside = finished.with_file_name(name);
         match File::create_new(&beside) {
             Err(e) if e.kind() == io::ErrorKind::AlreadyExists => continue,
