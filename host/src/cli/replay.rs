@@ -33,7 +33,7 @@ prints an object a call; with --check one.
 Examples:
   lampthistle replay song.mod trial.txt --record trial.record
   lampthistle replay song.mod trial.record --check
-  trial.record: 14 calls, 214 ticks: every answer and checksum came again
+  trial.record: 13 calls, 214 ticks: every answer and checksum came again
 
 Exit status: 0 it ran, and with --check came again; 1 the module is refused, or the record differs; 2 wrong use, a bad line, or a file
 that cannot be read or written.

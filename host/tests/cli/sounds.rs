@@ -1,7 +1,7 @@
 //! Sound files: pipes, files that are cut or do not fit, and lengths in seconds.
 use crate::common::{command, folder, in_time, quiet, run, said, stored, told};
 use std::path::Path;
-use std::process::Command;
+use std::process::{Command, Stdio};
 use std::thread::{sleep, spawn};
 use std::time::Duration;
 
@@ -43,6 +43,23 @@ fn a_pipe_is_written_as_it_is() {
     assert_eq!((&wav[4..8], &wav[40..44]), (&OPEN[..], &OPEN[..]));
     let words = ["translate", module, "--ticks", "2", "--out"];
     assert_eq!(through_a_pipe(&words, &folder, "p.stream").len(), 31);
+}
+
+#[test]
+fn a_device_is_written_as_it_is() {
+    // script runs the line on a terminal of its own, which is a device as a serial line is.
+    let module = quiet("device.mod", &[]);
+    let program = env!("CARGO_BIN_EXE_lampthistle");
+    let line = format!("'{program}' translate '{module}' --ticks 1 --out \"$(tty)\"");
+    let mut script = Command::new("script");
+    script
+        .args(["-qec", &line, "/dev/null"])
+        .stdin(Stdio::null());
+    let output = in_time(&mut script);
+    assert_eq!(output.status.code(), Some(0));
+    let stream = [0, 0, 0, 7, 1, 0, 0, 0, 1, 0, 0x7D];
+    let mut parts = output.stdout.windows(stream.len());
+    assert!(parts.any(|part| part == stream), "{:?}", output.stdout);
 }
 
 #[test]

@@ -71,20 +71,25 @@ fn silence(name: &str, ticks: u32) -> String {
     stream.to_str().unwrap().into()
 }
 
+/// Runs the command in an address space of 64 MB.
+fn in_small_memory(words: &[&str]) -> (i32, String, String) {
+    let script = "ulimit -v 65536; exec \"$0\" \"$@\"";
+    let mut shell = Command::new("sh");
+    shell.args(["-c", script, env!("CARGO_BIN_EXE_lampthistle")]);
+    said(shell.args(words).output().unwrap())
+}
+
 #[test]
 fn the_board_plays_any_length() {
-    // 1.2 GB of sound, in an address space of 64 MB.
+    // 1.2 GB of sound.
     let stream = silence("large.stream", 80_000);
     let null = own("null.raw");
     let _ = std::fs::remove_file(&null);
     symlink("/dev/null", &null).unwrap();
-    let script = "ulimit -v 65536; exec \"$0\" board --plain \"$1\" \"$2\" --out \"$3\"";
-    let output = Command::new("sh")
-        .args(["-c", script, env!("CARGO_BIN_EXE_lampthistle"), &stream])
-        .args([&stored("flow"), null.to_str().unwrap()])
-        .output()
-        .unwrap();
-    assert_eq!(said(output), (0, "0 0 80000\n".into(), String::new()));
+    let null = null.to_str().unwrap();
+    let words = ["board", "--plain", &stream, &stored("flow"), "--out", null];
+    let answer = (0, "0 0 80000\n".into(), String::new());
+    assert_eq!(in_small_memory(&words), answer);
     let stream = silence("larger.stream", 300_000);
     let words = ["board", &stream, &stored("flow"), "--out", "larger.wav"];
     let (status, out, err) = told(&words);
@@ -93,16 +98,22 @@ fn the_board_plays_any_length() {
 }
 
 #[test]
-fn pieces_join() {
-    // 470 frames a tick: a piece has 8,925 ticks.
-    for name in ["effects", "flow", "edges"] {
-        let (status, out, err) = told(&["compare", &stored(name), "--ticks", "30000", "--plain"]);
-        assert_eq!(
-            (status, out.as_str(), err.as_str()),
-            (0, "0 0 30000\n", ""),
-            "{name}"
-        );
+fn player_and_board_are_compared_in_pieces() {
+    // 470 frames a tick: 75 MB of sound, and a piece has 8,925 ticks.
+    let answer = (0, "0 0 40000\n".into(), String::new());
+    for name in ["effects", "edges"] {
+        let words = ["compare", &stored(name), "--ticks", "40000", "--plain"];
+        assert_eq!(in_small_memory(&words), answer, "{name}");
     }
+    // Two channels hold their notes to the end: their sound since then needs the memory.
+    let words = ["compare", &stored("flow"), "--ticks", "40000", "--plain"];
+    assert_eq!(told(&words), answer);
+    let (status, out, err) = in_small_memory(&words);
+    assert_eq!((status, out.as_str()), (2, ""));
+    assert!(
+        err.contains("the sound since the oldest note that is held"),
+        "{err}"
+    );
 }
 
 #[test]
