@@ -10,7 +10,7 @@ mod play;
 mod stream;
 mod sys;
 
-pub use answer::Answer;
+pub use answer::{Answer, Refusal};
 pub use play::{
     change_page, fresh, play, tick_frames, touch, State, RATE, STATE_CELLS, TICK_NUMBERS,
 };

@@ -1,6 +1,6 @@
 //! The safe wrappers, on modules small enough to know every answer.
 use lampthistle::{
-    change_page, fresh, judge, play, play_stream, tick_frames, touch, translate, Answer,
+    change_page, fresh, judge, play, play_stream, tick_frames, touch, translate, Answer, Refusal,
 };
 
 /// The refusals of all calls.
@@ -103,6 +103,21 @@ fn every_refusal_has_a_meaning() {
     assert_eq!(accepted(3).to_string(), "accepted");
     let text = "refused 9 at 1484: a cell's period is neither 0 nor 113 to 856";
     assert_eq!(refused(9, 1_484).to_string(), text);
+}
+
+#[test]
+fn a_refusal_is_an_error() {
+    fn ticks(file: &[u8]) -> Result<u64, Box<dyn std::error::Error>> {
+        Ok(play(file, &mut fresh(), 3, &mut [0; 7_500]).accepted()?)
+    }
+    assert_eq!(ticks(&empty()).unwrap(), 3);
+    let refusal = Refusal {
+        number: 7,
+        place: 2_107,
+    };
+    let error = ticks(&empty()[..2_107]).unwrap_err();
+    assert_eq!(error.downcast_ref(), Some(&refusal));
+    assert_eq!(error.to_string(), Answer::from(refusal).to_string());
 }
 
 #[test]
