@@ -10,7 +10,11 @@ ghost use Rattle.player.specs.Touch.{changePage, touchOf};
 ghost use Rattle.translator.specs.Translate.{translateOf};
 ghost use Rattle.board.specs.Board.{playStream};
 ghost use Rattle.capi.specs.Answers.{judgeAnswer, answerCells, cellsAfter};
+ghost use Rattle.capi.specs.Version.{version};
 use reader::Answer;
+
+// Major times 1,000,000, plus minor times 1,000, plus patch.
+const VERSION: u32 = 1000;
 
 // An answer's three cells.
 fn answer_cells(a: Answer) -> [u64; 3]
@@ -23,6 +27,14 @@ fn is_refused(a: Answer) -> bool
     ensures { λ r. ⌜ r ≡ not (eqb (a .number) 0) ⌝ }
 {
     a.number != 0
+}
+
+// The version of the library that is linked.
+#[no_mangle]
+pub extern "C" fn lampthistle_version() -> u32
+    ensures { λ r. ⌜ r ≡ version ⌝ }
+{
+    VERSION
 }
 
 // Judges a file.

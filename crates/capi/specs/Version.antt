@@ -1,0 +1,7 @@
+-- The library's version, as the header has it.
+-- Assumes nothing.
+use Prim.Native.Nat.{ℕ}
+
+-- major times 1,000,000, plus minor times 1,000, plus patch: 0.1.0
+abbrev pub version : ℕ
+version = 1000
