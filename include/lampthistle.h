@@ -1,14 +1,14 @@
 /* Lampthistle: the proved library's calls, for C99 and C++11 on x86-64 Linux. Link liblampthistle.a.
 
    ANSWERS
-   answer[0] is the number: 0 where the call is accepted, else the refusal's. answer[1] is the refusal's place, 0 where none is named.
-   answer[2] is the count: ticks played (play, play_stream) or bytes written (translate); 0 for the other calls and for every refusal.
-   All three cells are written by every call that takes them.
+   A call answers a number, a place and a count. Number 0 is accepted; another number is a refusal, and the place says where, 0 where
+   none is named. The count is ticks played (play, play_stream) or bytes written (translate); 0 for the other calls and for every
+   refusal. All three cells are written by every call that takes them. lampthistle_refusal_text says a number in words.
 
    WHAT A CALLER OWES
-   Every pointer is not null (also where its length is 0), aligned for its type and good for its length for the whole call, and none
-   that is written overlaps another. A length counts elements: bytes of a file, stream or room, 16-bit numbers of a sound buffer.
-   Nothing else is asked: any bytes and any numbers may be passed.
+   Every pointer is aligned for its type and good for its length for the whole call, and none that is written overlaps another. A
+   length counts elements: bytes of a file, stream or room, 16-bit numbers of a sound buffer. A pointer that comes with a length may be
+   null where the length is 0; a state and an answer may not. Nothing else is asked: any bytes and any numbers may be passed.
 
    WHAT A CALLER GETS
    Every call returns, on any input. A refused call writes the answer and nothing else: the state and every lent buffer stay. An
@@ -16,7 +16,8 @@
 
    THREADS AND MEMORY
    The library has no memory of its own, allocates nothing, does no I/O and keeps no pointer: calls on separate data may run in any
-   threads at once. One state is for one thread at a time. A file or stream that is only read may be shared.
+   threads at once. One state is for one thread at a time. A file or stream that is only read may be shared. A call takes at most
+   LAMPTHISTLE_STACK_BYTES of stack, whatever its input.
 
    FRAMES
    48,000 frames a second, two signed 16-bit numbers a frame, left first. A tick has 120,000 div tempo frames: 960 at tempo 125, at
@@ -24,43 +25,23 @@
    is needed, play one tick a call; the state's tempo cell then says how long that tick was.
 
    STATES
-   A state is 56 plain numbers. lampthistle_fresh makes the first one; it may be copied, stored and sent, and played on later. Each
-   call that takes a state judges the module first, then the state against the module (14).
+   A state is LAMPTHISTLE_STATE_CELLS plain numbers. lampthistle_fresh makes the first one; it may be copied, stored and sent, and
+   played on later. Each call that takes a state judges the module first, then the state against the module.
+
+   VERSIONS
+   Cells, refusals and calls are the same in all versions that differ in their last number alone. Otherwise they may differ: then this
+   header and the archive do not fit together, and a state that was stored by the one version is no state of the other, even where 14
+   does not refuse it. So store a state with its version, and play it on only where LAMPTHISTLE_SAME_CELLS holds of that; else begin
+   with a fresh one. A program that is linked apart from its compiling asks LAMPTHISTLE_SAME_CELLS(lampthistle_version()) at its start.
 
    TOUCHES
    A touch carries the page on which it was made, the state's clock when it was made, and the song position that it asks for. It is
-   refused if it comes from another page (16), is older than 25 ticks (17) or names a position past the song's end (18). A page change
-   shuts out every touch made before it.
+   refused if it comes from another page, is older than 25 ticks or names a position past the song's end. A page change shuts out every
+   touch made before it.
 
    STREAMS
    A stream holds the ticks of a song as registers for a sound board: tempo, and for each channel sample, volume, period and start.
-   The board takes samples from the module, never its patterns or table. docs/FORMATS.md gives every byte.
-
-   REFUSALS, smallest number first
-     of the file, by every call that is lent one
-       1  shorter than 1,084 bytes; place: its length
-       2  the tag is not M.K.; place: 1080
-       3  song length 0 or above 128; place: 950
-       4  a table entry above 63; place: the first such byte
-       5  a sample's volume above 64; place: the first such byte
-       6  a sample's loop leaves the sample; place: the first such header's repeat start
-       7  the file ends before its patterns and samples do; place: its length
-       8  a cell's sample number above 31; place: the cell
-       9  a cell's period neither 0 nor 113 to 856; place: the cell
-          of bad cells the first in the file decides, with 8 before 9 in one cell
-     of a translation
-      11  more than 65,535 ticks asked; place: 0
-      12  the room is shorter than the stream; place: the length needed
-     of a state
-      14  not legal for this module; place: 0
-     of a touch
-      16  made on another page; place: 0
-      17  older than 25 ticks, or made in the future; place: 0
-      18  names a position at or past the song length; place: 0
-     of a stream
-      21  under 9 bytes, or its length is not 4 plus its first number; place: its length
-      22  version byte is not 1; place: 4
-      23  a bad record, or bytes left over; place: that record, or the first byte left */
+   The board takes samples from the module, never its patterns or table. docs/FORMATS.md gives every byte. */
 #ifndef LAMPTHISTLE_H
 #define LAMPTHISTLE_H
 
@@ -71,6 +52,15 @@
 extern "C" {
 #endif
 
+#define LAMPTHISTLE_VERSION_MAJOR 0
+#define LAMPTHISTLE_VERSION_MINOR 1
+#define LAMPTHISTLE_VERSION_PATCH 0
+/* This header's version as one number, and as text. */
+#define LAMPTHISTLE_VERSION (1000000 * LAMPTHISTLE_VERSION_MAJOR + 1000 * LAMPTHISTLE_VERSION_MINOR + LAMPTHISTLE_VERSION_PATCH)
+#define LAMPTHISTLE_VERSION_TEXT "0.1.0"
+/* Whether cells, refusals and calls of a version are those of this header. */
+#define LAMPTHISTLE_SAME_CELLS(version) ((version) / 1000 == LAMPTHISTLE_VERSION / 1000)
+
 #define LAMPTHISTLE_RATE 48000
 #define LAMPTHISTLE_CHANNELS 4
 #define LAMPTHISTLE_STATE_CELLS 56
@@ -80,6 +70,72 @@ extern "C" {
 #define LAMPTHISTLE_NUMBERS_AT(tempo) (2 * (120000 / (size_t)(tempo)))
 /* The most ticks that one translation takes. */
 #define LAMPTHISTLE_MOST_TICKS 65535
+/* The most stack that one call takes. */
+#define LAMPTHISTLE_STACK_BYTES 8192
+
+/* An answer's cells. */
+enum lampthistle_answer_cell {
+    LAMPTHISTLE_NUMBER,
+    LAMPTHISTLE_PLACE,
+    LAMPTHISTLE_COUNT,
+    LAMPTHISTLE_ANSWER_CELLS
+};
+
+/* An answer's numbers, each with its place. The smallest number wins; of bad cells the first in the file decides, with
+   SAMPLE_NUMBER before PERIOD in one cell. */
+enum lampthistle_refusal {
+    LAMPTHISTLE_ACCEPTED = 0,
+    /* of the file, by every call that is lent one */
+    LAMPTHISTLE_REFUSED_SHORT_FILE = 1,    /* its length */
+    LAMPTHISTLE_REFUSED_TAG = 2,           /* 1080 */
+    LAMPTHISTLE_REFUSED_SONG_LENGTH = 3,   /* 950 */
+    LAMPTHISTLE_REFUSED_TABLE_ENTRY = 4,   /* the first such byte */
+    LAMPTHISTLE_REFUSED_VOLUME = 5,        /* the first such byte */
+    LAMPTHISTLE_REFUSED_LOOP = 6,          /* the first such header's repeat start */
+    LAMPTHISTLE_REFUSED_CUT_FILE = 7,      /* its length */
+    LAMPTHISTLE_REFUSED_SAMPLE_NUMBER = 8, /* the cell */
+    LAMPTHISTLE_REFUSED_PERIOD = 9,        /* the cell */
+    /* of a translation */
+    LAMPTHISTLE_REFUSED_TICKS = 11, /* 0 */
+    LAMPTHISTLE_REFUSED_ROOM = 12,  /* the length needed */
+    /* of a state */
+    LAMPTHISTLE_REFUSED_STATE = 14, /* 0 */
+    /* of a touch */
+    LAMPTHISTLE_REFUSED_PAGE = 16,     /* 0 */
+    LAMPTHISTLE_REFUSED_AGE = 17,      /* 0 */
+    LAMPTHISTLE_REFUSED_POSITION = 18, /* 0 */
+    /* of a stream */
+    LAMPTHISTLE_REFUSED_STREAM_LENGTH = 21,  /* its length */
+    LAMPTHISTLE_REFUSED_STREAM_VERSION = 22, /* 4 */
+    LAMPTHISTLE_REFUSED_RECORD = 23          /* that record, or the first byte left */
+};
+
+/* What an answer's number means, for a person. */
+static inline const char *lampthistle_refusal_text(uint64_t number) {
+    switch (number) {
+    case LAMPTHISTLE_ACCEPTED: return "accepted";
+    case LAMPTHISTLE_REFUSED_SHORT_FILE: return "the file is shorter than 1,084 bytes";
+    case LAMPTHISTLE_REFUSED_TAG: return "the tag at byte 1080 is not M.K.";
+    case LAMPTHISTLE_REFUSED_SONG_LENGTH: return "the song length is 0 or above 128";
+    case LAMPTHISTLE_REFUSED_TABLE_ENTRY: return "a table entry is above 63";
+    case LAMPTHISTLE_REFUSED_VOLUME: return "a sample's volume is above 64";
+    case LAMPTHISTLE_REFUSED_LOOP: return "a sample's loop leaves the sample";
+    case LAMPTHISTLE_REFUSED_CUT_FILE: return "the file ends before its patterns and samples do";
+    case LAMPTHISTLE_REFUSED_SAMPLE_NUMBER: return "a cell's sample number is above 31";
+    case LAMPTHISTLE_REFUSED_PERIOD: return "a cell's period is neither 0 nor 113 to 856";
+    case LAMPTHISTLE_REFUSED_TICKS: return "more than 65,535 ticks to translate";
+    case LAMPTHISTLE_REFUSED_ROOM: return "the room is shorter than the stream; the place is the length needed";
+    case LAMPTHISTLE_REFUSED_STATE: return "the state is not legal for this module";
+    case LAMPTHISTLE_REFUSED_PAGE: return "the touch was made on another page";
+    case LAMPTHISTLE_REFUSED_AGE: return "the touch is older than 25 ticks";
+    case LAMPTHISTLE_REFUSED_POSITION: return "the touch names a position at or past the song length";
+    case LAMPTHISTLE_REFUSED_STREAM_LENGTH:
+        return "the stream is shorter than 9 bytes, or its length is not 4 plus its first number";
+    case LAMPTHISTLE_REFUSED_STREAM_VERSION: return "the stream's version is not 1";
+    case LAMPTHISTLE_REFUSED_RECORD: return "a record of the stream is bad, or bytes are left over";
+    default: return "an unknown refusal";
+    }
+}
 
 typedef struct lampthistle_state {
     uint32_t cell[LAMPTHISTLE_STATE_CELLS];
@@ -122,8 +178,11 @@ enum lampthistle_channel_cell {
 #define LAMPTHISTLE_CHANNEL_CELL(channel, which) \
     (LAMPTHISTLE_FIRST_CHANNEL + LAMPTHISTLE_CHANNEL_CELLS * (channel) + (which))
 
+/* The version of the library that is linked, as LAMPTHISTLE_VERSION. */
+uint32_t lampthistle_version(void);
+
 /* Whether the bytes are a module that can be played: refusals 1 to 9. */
-void lampthistle_judge(const uint8_t *file, size_t file_len, uint64_t answer[3]);
+void lampthistle_judge(const uint8_t *file, size_t file_len, uint64_t answer[LAMPTHISTLE_ANSWER_CELLS]);
 
 /* Writes the state before the first tick of any song: position, row and clock 0, speed 6, tempo 125, voices stopped. */
 void lampthistle_fresh(uint32_t state[LAMPTHISTLE_STATE_CELLS]);
@@ -131,26 +190,27 @@ void lampthistle_fresh(uint32_t state[LAMPTHISTLE_STATE_CELLS]);
 /* Plays the largest number of whole ticks, up to `ticks`, whose frames fit into `out`; counts them. The state goes on by as many ticks,
    the frames lie at the beginning of `out`, and the rest of `out` stays. Refusals 1 to 9, 14. */
 void lampthistle_play(const uint8_t *file, size_t file_len, uint32_t state[LAMPTHISTLE_STATE_CELLS], uint32_t ticks,
-                      int16_t *out, size_t out_len, uint64_t answer[3]);
+                      int16_t *out, size_t out_len, uint64_t answer[LAMPTHISTLE_ANSWER_CELLS]);
 
 /* Takes a touch: the song goes to the beginning of `position`; voices, speed, tempo, clock and page stay. Refusals 1 to 9, 14, 16 to
    18. */
 void lampthistle_touch(const uint8_t *file, size_t file_len, uint32_t state[LAMPTHISTLE_STATE_CELLS],
-                       uint32_t page, uint32_t made, uint32_t position, uint64_t answer[3]);
+                       uint32_t page, uint32_t made, uint32_t position, uint64_t answer[LAMPTHISTLE_ANSWER_CELLS]);
 
 /* Adds 1 to the page, modulo 2^32. Refusals 1 to 9, 14. */
-void lampthistle_change_page(const uint8_t *file, size_t file_len, uint32_t state[LAMPTHISTLE_STATE_CELLS], uint64_t answer[3]);
+void lampthistle_change_page(const uint8_t *file, size_t file_len, uint32_t state[LAMPTHISTLE_STATE_CELLS],
+                             uint64_t answer[LAMPTHISTLE_ANSWER_CELLS]);
 
 /* Writes the stream of the song's first `ticks` ticks, from the fresh state, into `room`; counts its bytes. Room past them stays. With
    room_len 0 it is a question for the length needed (12). Refusals 1 to 9, 11, 12. */
 void lampthistle_translate(const uint8_t *file, size_t file_len, uint32_t ticks,
-                           uint8_t *room, size_t room_len, uint64_t answer[3]);
+                           uint8_t *room, size_t room_len, uint64_t answer[LAMPTHISTLE_ANSWER_CELLS]);
 
 /* Plays the largest number of the stream's ticks whose frames fit into `out`, from its first tick and stopped voices, with the samples
    of the module; counts them. The rest of `out` stays. Refusals 1 to 9, 21 to 23; every record is judged, also those that do not
    fit. */
 void lampthistle_play_stream(const uint8_t *stream, size_t stream_len, const uint8_t *file, size_t file_len,
-                             int16_t *out, size_t out_len, uint64_t answer[3]);
+                             int16_t *out, size_t out_len, uint64_t answer[LAMPTHISTLE_ANSWER_CELLS]);
 
 #ifdef __cplusplus
 }

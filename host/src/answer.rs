@@ -1,4 +1,5 @@
 //! What every call answers, and what the refusals mean.
+use crate::refusal;
 use std::{error, fmt};
 
 /// What a call answers. Number 0 is accepted; another number is a refusal, with its place. The count is what the call counts: ticks
@@ -90,24 +91,26 @@ impl From<Refusal> for Answer {
 fn meaning(number: u64) -> &'static str {
     match number {
         0 => "accepted",
-        1 => "the file is shorter than 1,084 bytes",
-        2 => "the tag at byte 1080 is not M.K.",
-        3 => "the song length is 0 or above 128",
-        4 => "a table entry is above 63",
-        5 => "a sample's volume is above 64",
-        6 => "a sample's loop leaves the sample",
-        7 => "the file ends before its patterns and samples do",
-        8 => "a cell's sample number is above 31",
-        9 => "a cell's period is neither 0 nor 113 to 856",
-        11 => "more than 65,535 ticks to translate",
-        12 => "the room is shorter than the stream; the place is the length needed",
-        14 => "the state is not legal for this module",
-        16 => "the touch was made on another page",
-        17 => "the touch is older than 25 ticks",
-        18 => "the touch names a position at or past the song length",
-        21 => "the stream is shorter than 9 bytes, or its length is not 4 plus its first number",
-        22 => "the stream's version is not 1",
-        23 => "a record of the stream is bad, or bytes are left over",
+        refusal::SHORT_FILE => "the file is shorter than 1,084 bytes",
+        refusal::TAG => "the tag at byte 1080 is not M.K.",
+        refusal::SONG_LENGTH => "the song length is 0 or above 128",
+        refusal::TABLE_ENTRY => "a table entry is above 63",
+        refusal::VOLUME => "a sample's volume is above 64",
+        refusal::LOOP => "a sample's loop leaves the sample",
+        refusal::CUT_FILE => "the file ends before its patterns and samples do",
+        refusal::SAMPLE_NUMBER => "a cell's sample number is above 31",
+        refusal::PERIOD => "a cell's period is neither 0 nor 113 to 856",
+        refusal::TICKS => "more than 65,535 ticks to translate",
+        refusal::ROOM => "the room is shorter than the stream; the place is the length needed",
+        refusal::STATE => "the state is not legal for this module",
+        refusal::PAGE => "the touch was made on another page",
+        refusal::AGE => "the touch is older than 25 ticks",
+        refusal::POSITION => "the touch names a position at or past the song length",
+        refusal::STREAM_LENGTH => {
+            "the stream is shorter than 9 bytes, or its length is not 4 plus its first number"
+        }
+        refusal::STREAM_VERSION => "the stream's version is not 1",
+        refusal::RECORD => "a record of the stream is bad, or bytes are left over",
         _ => "an unknown refusal",
     }
 }

@@ -7,6 +7,7 @@
 mod answer;
 pub mod cell;
 mod play;
+pub mod refusal;
 mod stream;
 mod sys;
 
