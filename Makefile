@@ -58,11 +58,13 @@ host-test: c-test robust
 
 # The archive and the header as C and C++ users get them, and the examples.
 c-test: demo
-	for part in smoke play stream; do \
+	for part in judge play stream; do \
 	    $(CC) -std=c99 $(C_WARNINGS) -Iout host/c/$$part.c out/liblampthistle.a -o out/$${part}_c && out/$${part}_c || exit 1; \
 	    $(CXX) -std=c++11 $(C_WARNINGS) -x c++ -Iout host/c/$$part.c -x none out/liblampthistle.a -o out/$${part}_cc \
 	        && out/$${part}_cc || exit 1; \
 	done
+	$(CC) -std=c99 $(C_WARNINGS) -pthread -Iout host/c/stack.c out/liblampthistle.a -o out/stack
+	out/stack out/demo.mod
 	for part in panel board; do \
 	    $(CC) -std=c99 $(C_WARNINGS) -Iout examples/$$part.c out/liblampthistle.a -o out/$$part || exit 1; \
 	done

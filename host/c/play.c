@@ -1,49 +1,65 @@
 /* The calls that play, as a C and a C++ program use them. */
-#include "lampthistle.h"
-#include <stdio.h>
-#include <string.h>
+#include "check.h"
 
-enum { TICK = 2 * 960 };
+enum { TICK = 2 * 960, FILLED = 0x101 };
 
-static int is(const uint64_t answer[3], uint64_t number, uint64_t place, uint64_t count) {
-    return answer[0] == number && answer[1] == place && answer[2] == count;
+static uint8_t file[SMALLEST];
+static lampthistle_state state;
+static uint64_t answer[LAMPTHISTLE_ANSWER_CELLS];
+
+static void check_fresh(void) {
+    lampthistle_fresh(state.cell);
+    CHECK(state.cell[LAMPTHISTLE_SPEED] == 6);
+    CHECK(state.cell[LAMPTHISTLE_TEMPO] == 125);
+    CHECK(state.cell[LAMPTHISTLE_CHANNEL_CELL(3, LAMPTHISTLE_VOICE_STOPPED)] == 1);
+}
+
+/* Two whole ticks fit; the rest of the buffer stays. */
+static void check_play(void) {
+    static int16_t out[3 * TICK];
+    int k, silent = 1, kept = 1;
+    memset(out, 1, sizeof out);
+    lampthistle_play(file, sizeof file, state.cell, 9, out, 3 * TICK - 1, answer);
+    CHECK_ANSWER(answer, LAMPTHISTLE_ACCEPTED, 0, 2);
+    CHECK(state.cell[LAMPTHISTLE_CLOCK] == 2);
+    for (k = 0; k < 2 * TICK; k++) silent &= out[k] == 0;
+    for (; k < 3 * TICK; k++) kept &= out[k] == FILLED;
+    CHECK(silent);
+    CHECK(kept);
+}
+
+static void check_touch(void) {
+    lampthistle_touch(file, sizeof file, state.cell, 0, 2, 0, answer);
+    CHECK_ANSWER(answer, LAMPTHISTLE_ACCEPTED, 0, 0);
+    CHECK(state.cell[LAMPTHISTLE_TICK] == 0);
+    lampthistle_change_page(file, sizeof file, state.cell, answer);
+    CHECK_ANSWER(answer, LAMPTHISTLE_ACCEPTED, 0, 0);
+    CHECK(state.cell[LAMPTHISTLE_PAGE] == 1);
+}
+
+static void check_refusals(void) {
+    lampthistle_state before = state;
+    lampthistle_touch(file, sizeof file, state.cell, 0, 2, 0, answer);
+    CHECK_ANSWER(answer, LAMPTHISTLE_REFUSED_PAGE, 0, 0);
+    lampthistle_touch(file, sizeof file, state.cell, 1, 3, 0, answer);
+    CHECK_ANSWER(answer, LAMPTHISTLE_REFUSED_AGE, 0, 0);
+    lampthistle_touch(file, sizeof file, state.cell, 1, 2, 1, answer);
+    CHECK_ANSWER(answer, LAMPTHISTLE_REFUSED_POSITION, 0, 0);
+    CHECK(memcmp(&state, &before, sizeof state) == 0);
+    state.cell[LAMPTHISTLE_TEMPO] = 31;
+    before = state;
+    lampthistle_play(file, sizeof file, state.cell, 0, NULL, 0, answer);
+    CHECK_ANSWER(answer, LAMPTHISTLE_REFUSED_STATE, 0, 0);
+    lampthistle_change_page(file, sizeof file, state.cell, answer);
+    CHECK_ANSWER(answer, LAMPTHISTLE_REFUSED_STATE, 0, 0);
+    CHECK(memcmp(&state, &before, sizeof state) == 0);
 }
 
 int main(void) {
-    static uint8_t file[2108];
-    static int16_t out[3 * TICK];
-    lampthistle_state state, before;
-    uint64_t answer[3];
-    int good = 1, k;
-    file[950] = 1;
-    memcpy(file + 1080, "M.K.", 4);
-    memset(out, 1, sizeof out);
-    lampthistle_fresh(state.cell);
-    good &= state.cell[LAMPTHISTLE_SPEED] == 6 && state.cell[LAMPTHISTLE_TEMPO] == 125;
-    good &= state.cell[LAMPTHISTLE_CHANNEL_CELL(3, LAMPTHISTLE_VOICE_STOPPED)] == 1;
-
-    /* Two whole ticks fit; the rest stays. */
-    lampthistle_play(file, sizeof file, state.cell, 9, out, 3 * TICK - 1, answer);
-    good &= is(answer, 0, 0, 2) && state.cell[LAMPTHISTLE_CLOCK] == 2;
-    for (k = 0; k < 3 * TICK; k++) good &= out[k] == (k < 2 * TICK ? 0 : 0x101);
-
-    lampthistle_touch(file, sizeof file, state.cell, 0, 2, 0, answer);
-    good &= is(answer, 0, 0, 0) && state.cell[LAMPTHISTLE_TICK] == 0;
-    lampthistle_change_page(file, sizeof file, state.cell, answer);
-    good &= is(answer, 0, 0, 0) && state.cell[LAMPTHISTLE_PAGE] == 1;
-
-    /* Refusals change nothing. */
-    before = state;
-    lampthistle_touch(file, sizeof file, state.cell, 0, 2, 0, answer);
-    good &= is(answer, 16, 0, 0);
-    lampthistle_touch(file, sizeof file, state.cell, 1, 3, 0, answer);
-    good &= is(answer, 17, 0, 0);
-    lampthistle_touch(file, sizeof file, state.cell, 1, 2, 1, answer);
-    good &= is(answer, 18, 0, 0);
-    good &= memcmp(&state, &before, sizeof state) == 0;
-    state.cell[LAMPTHISTLE_TEMPO] = 31;
-    lampthistle_play(file, sizeof file, state.cell, 0, out, 0, answer);
-    good &= is(answer, 14, 0, 0) && state.cell[LAMPTHISTLE_TEMPO] == 31;
-    puts(good ? "play: ok" : "play: FAILED");
-    return !good;
+    make_smallest(file);
+    check_fresh();
+    check_play();
+    check_touch();
+    check_refusals();
+    return checked("play");
 }

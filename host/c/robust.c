@@ -1,6 +1,7 @@
 /* robust FOLDER: every call on the inputs 0.mod, 0.state, 0.stream, 1.mod, .. of a folder, to be run under a memory checker. Each input
    and each lent buffer is a block of exactly its length; a second run lends parts of larger blocks with guard cells on both sides.
-   Buffers are filled with a pattern. Refused calls must change nothing, and no call may change its inputs or a guard cell. */
+   Where a length is 0 the pointer is null. Buffers are filled with a pattern. Refused calls must change nothing, and no call may change
+   its inputs or a guard cell. */
 #include "lampthistle.h"
 #include <stdio.h>
 #include <stdlib.h>
@@ -26,12 +27,17 @@ static void check(int good, const char *what, int k) {
 }
 
 static block new_block(size_t bytes) {
-    block b;
+    block b = {NULL, bytes};
+    if (bytes == 0) return b;
     b.at = (uint8_t *)malloc(bytes);
-    b.bytes = bytes;
     if (!b.at) exit(2);
     memset(b.at, PATTERN, bytes);
     return b;
+}
+
+/* The block without its guard cells. */
+static uint8_t *within(block b, size_t guard) {
+    return b.at ? b.at + guard : NULL;
 }
 
 /* Whether all of the block but `bytes` from `from` on holds the pattern. */
@@ -52,43 +58,43 @@ static int load(const char *folder, int k, const char *kind, block *to) {
     bytes = ftell(in);
     rewind(in);
     *to = new_block((size_t)bytes);
-    if (fread(to->at, 1, to->bytes, in) != to->bytes) exit(2);
+    if (to->at && fread(to->at, 1, to->bytes, in) != to->bytes) exit(2);
     return fclose(in) == 0;
 }
 
-static void count(const uint64_t answer[3], int k) {
-    check(answer[0] < KINDS, "an unknown number", k);
-    check(answer[0] == 0 || answer[2] == 0, "a refusal with a count", k);
-    if (answer[0] < KINDS) answers[answer[0]]++;
+static void count(const uint64_t *answer, int k) {
+    check(answer[LAMPTHISTLE_NUMBER] < KINDS, "an unknown number", k);
+    check(answer[LAMPTHISTLE_NUMBER] == 0 || answer[LAMPTHISTLE_COUNT] == 0, "a refusal with a count", k);
+    if (answer[LAMPTHISTLE_NUMBER] < KINDS) answers[answer[LAMPTHISTLE_NUMBER]]++;
 }
 
 /* The calls that write a buffer, on a part of a block. */
 static void buffers(const input *in, int k, size_t numbers, size_t guard) {
-    uint64_t answer[3];
+    uint64_t answer[LAMPTHISTLE_ANSWER_CELLS];
     uint32_t state[LAMPTHISTLE_STATE_CELLS];
     size_t bytes = numbers * sizeof(int16_t);
     block out = new_block(bytes + 2 * guard), board = new_block(bytes + 2 * guard), room = new_block(numbers + 2 * guard);
 
     memcpy(state, in->state.at, sizeof state);
-    lampthistle_play(in->module.at, in->module.bytes, state, 3, (int16_t *)(out.at + guard), numbers, answer);
+    lampthistle_play(in->module.at, in->module.bytes, state, 3, (int16_t *)(void *)within(out, guard), numbers, answer);
     count(answer, k);
-    check(kept(out, guard, answer[0] == 0 ? bytes : 0), "play wrote outside", k);
-    check(answer[0] == 0 || memcmp(state, in->state.at, sizeof state) == 0, "a refused play changed the state", k);
+    check(kept(out, guard, answer[LAMPTHISTLE_NUMBER] == 0 ? bytes : 0), "play wrote outside", k);
+    check(answer[LAMPTHISTLE_NUMBER] == 0 || memcmp(state, in->state.at, sizeof state) == 0, "a refused play changed the state", k);
 
-    lampthistle_play_stream(in->stream.at, in->stream.bytes, in->module.at, in->module.bytes, (int16_t *)(board.at + guard), numbers,
-                            answer);
+    lampthistle_play_stream(in->stream.at, in->stream.bytes, in->module.at, in->module.bytes, (int16_t *)(void *)within(board, guard),
+                            numbers, answer);
     count(answer, k);
-    check(kept(board, guard, answer[0] == 0 ? bytes : 0), "play_stream wrote outside", k);
+    check(kept(board, guard, answer[LAMPTHISTLE_NUMBER] == 0 ? bytes : 0), "play_stream wrote outside", k);
 
-    lampthistle_translate(in->module.at, in->module.bytes, 5, room.at + guard, numbers, answer);
+    lampthistle_translate(in->module.at, in->module.bytes, 5, within(room, guard), numbers, answer);
     count(answer, k);
-    check(kept(room, guard, answer[2]), "translate wrote outside", k);
+    check(kept(room, guard, answer[LAMPTHISTLE_COUNT]), "translate wrote outside", k);
     free(out.at), free(board.at), free(room.at);
 }
 
 /* The calls that write a state, which is a block of its own. */
 static void states(const input *in, int k) {
-    uint64_t answer[3];
+    uint64_t answer[LAMPTHISTLE_ANSWER_CELLS];
     block state = new_block(sizeof(lampthistle_state));
     uint32_t *cells = (uint32_t *)(void *)state.at;
     memcpy(cells, in->state.at, state.bytes);
@@ -96,11 +102,11 @@ static void states(const input *in, int k) {
     count(answer, k);
     lampthistle_touch(in->module.at, in->module.bytes, cells, cells[LAMPTHISTLE_PAGE], cells[LAMPTHISTLE_CLOCK], 0, answer);
     count(answer, k);
-    check(answer[0] == 0 || memcmp(cells, in->state.at, state.bytes) == 0, "a refused touch changed the state", k);
+    check(answer[LAMPTHISTLE_NUMBER] == 0 || memcmp(cells, in->state.at, state.bytes) == 0, "a refused touch changed the state", k);
     memcpy(cells, in->state.at, state.bytes);
     lampthistle_change_page(in->module.at, in->module.bytes, cells, answer);
     count(answer, k);
-    check(answer[0] == 0 || memcmp(cells, in->state.at, state.bytes) == 0, "a refused page change changed the state", k);
+    check(answer[LAMPTHISTLE_NUMBER] == 0 || memcmp(cells, in->state.at, state.bytes) == 0, "a refused page change changed the state", k);
     lampthistle_fresh(cells);
     check(cells[LAMPTHISTLE_SPEED] == 6, "fresh", k);
     free(state.at);

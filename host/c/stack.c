@@ -1,0 +1,112 @@
+/* stack MODULE: how much stack each call takes, which must not be more than the header says. Each call is made on a thread whose stack
+   was filled with a pattern; what it took is what is no longer the pattern, less what a call that does nothing takes. The paths are
+   those of a module that plays, from its first tick to its last, of its stream, and of each call's refusal. */
+#define _POSIX_C_SOURCE 200809L
+#include "lampthistle.h"
+#include <pthread.h>
+#include <stdio.h>
+#include <stdlib.h>
+#include <string.h>
+
+enum { STACK = 1 << 20, PATTERN = 0xA5, MODULE = 1 << 20, TICKS = 1500, NUMBERS = 1 << 22, ROOM = 1 << 20 };
+
+static uint8_t stack[STACK] __attribute__((aligned(4096)));
+static uint8_t module[MODULE], room[ROOM];
+static size_t module_length, stream_length;
+static int16_t out[NUMBERS];
+static lampthistle_state state;
+static uint64_t answer[LAMPTHISTLE_ANSWER_CELLS];
+
+static void *nothing(void *none) {
+    return none;
+}
+
+static void *judge(void *none) {
+    lampthistle_judge(module, module_length, answer);
+    return none;
+}
+
+static void *fresh(void *none) {
+    lampthistle_fresh(state.cell);
+    return none;
+}
+
+static void *play(void *none) {
+    lampthistle_play(module, module_length, state.cell, TICKS, out, NUMBERS, answer);
+    return none;
+}
+
+static void *touch(void *none) {
+    lampthistle_touch(module, module_length, state.cell, 0, state.cell[LAMPTHISTLE_CLOCK], 0, answer);
+    return none;
+}
+
+static void *change_page(void *none) {
+    lampthistle_change_page(module, module_length, state.cell, answer);
+    return none;
+}
+
+static void *translate(void *none) {
+    lampthistle_translate(module, module_length, TICKS, room, ROOM, answer);
+    if (answer[LAMPTHISTLE_NUMBER] == LAMPTHISTLE_ACCEPTED) stream_length = (size_t)answer[LAMPTHISTLE_COUNT];
+    return none;
+}
+
+static void *play_stream(void *none) {
+    lampthistle_play_stream(room, stream_length, module, module_length, out, NUMBERS, answer);
+    return none;
+}
+
+/* The bytes of a stack that grows down which are no longer the pattern. */
+static size_t taken(void *(*call)(void *)) {
+    pthread_attr_t about;
+    pthread_t thread;
+    size_t kept = 0;
+    memset(stack, PATTERN, sizeof stack);
+    if (pthread_attr_init(&about) || pthread_attr_setstack(&about, stack, sizeof stack) || pthread_create(&thread, &about, call, NULL) ||
+        pthread_join(thread, NULL))
+        exit(2);
+    pthread_attr_destroy(&about);
+    while (kept < sizeof stack && stack[kept] == PATTERN) kept++;
+    return sizeof stack - kept;
+}
+
+static size_t measure(const char *name, void *(*call)(void *)) {
+    size_t bytes = taken(call) - taken(nothing);
+    printf("  %-12s %6lu bytes, answer %lu\n", name, (unsigned long)bytes, (unsigned long)answer[LAMPTHISTLE_NUMBER]);
+    return bytes;
+}
+
+/* All calls; the most that one takes. */
+static size_t measure_all(void) {
+    static const struct {
+        const char *name;
+        void *(*call)(void *);
+    } CALLS[] = {{"fresh", fresh}, {"judge", judge}, {"play", play}, {"touch", touch}, {"change_page", change_page},
+                 {"translate", translate}, {"play_stream", play_stream}};
+    size_t most = 0, bytes, k;
+    for (k = 0; k < sizeof CALLS / sizeof CALLS[0]; k++) {
+        bytes = measure(CALLS[k].name, CALLS[k].call);
+        if (bytes > most) most = bytes;
+    }
+    return most;
+}
+
+int main(int words, char **word) {
+    FILE *in = words == 2 ? fopen(word[1], "rb") : NULL;
+    size_t most, refused;
+    if (!in) return fprintf(stderr, "usage: stack MODULE\n"), 2;
+    module_length = fread(module, 1, sizeof module, in);
+    fclose(in);
+    /* The loader finds memcpy and memset at their first call, on the stack of that call: once before anything is measured. */
+    lampthistle_fresh(state.cell);
+    play(NULL);
+    translate(NULL);
+    play_stream(NULL);
+    most = measure_all();
+    module[1080] = 0;
+    refused = measure_all();
+    if (refused > most) most = refused;
+    printf("stack: %lu bytes at most, %d allowed\n", (unsigned long)most, LAMPTHISTLE_STACK_BYTES);
+    return most > LAMPTHISTLE_STACK_BYTES;
+}
