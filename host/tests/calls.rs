@@ -3,11 +3,6 @@ use lampthistle::{
     change_page, fresh, judge, play, play_stream, tick_frames, touch, translate, Answer, Refusal,
 };
 
-/// The refusals of all calls.
-const REFUSALS: [u64; 18] = [
-    1, 2, 3, 4, 5, 6, 7, 8, 9, 11, 12, 14, 16, 17, 18, 21, 22, 23,
-];
-
 /// One empty pattern and no samples: 2,108 bytes.
 fn empty() -> Vec<u8> {
     let mut file = vec![0; 2_108];
@@ -94,12 +89,7 @@ fn the_two_whole_streams_are_given() {
 }
 
 #[test]
-fn every_refusal_has_a_meaning() {
-    for number in 0..30 {
-        let known = number == 0 || REFUSALS.contains(&number);
-        let meaning = refused(number, 0).meaning();
-        assert_eq!(meaning != "an unknown refusal", known, "{number}");
-    }
+fn answers_are_shown_with_their_words() {
     assert_eq!(accepted(3).to_string(), "accepted");
     let text = "refused 9 at 1484: a cell's period is neither 0 nor 113 to 856";
     assert_eq!(refused(9, 1_484).to_string(), text);

@@ -1,0 +1,70 @@
+//! The documents' tables.
+use crate::parse::{defined, entries, file, refusals, words};
+
+#[test]
+fn formats_has_every_refusal() {
+    let formats = file("docs/FORMATS.md");
+    let rows = formats
+        .lines()
+        .skip_while(|line| *line != "| No. | Name | Means | Place |")
+        .skip(2)
+        .take_while(|line| line.starts_with('|'));
+    let expected: Vec<String> = refusals()
+        .iter()
+        .map(|entry| {
+            let (number, name) = (entry.number, &entry.name);
+            let words = words(&format!("REFUSED_{name}"));
+            format!("| {number} | `{name}` | {words} | {} |", entry.comment)
+        })
+        .collect();
+    assert_eq!(rows.collect::<Vec<_>>(), expected);
+}
+
+/// The table gives where each line's cells begin, and their names.
+#[test]
+fn api_has_every_cell() {
+    let api = file("docs/API.md");
+    for (heading, name) in [
+        ("| Cells | A song's |", "lampthistle_cell"),
+        ("| Cells | A channel's |", "lampthistle_channel_cell"),
+    ] {
+        let mut expected = entries(name);
+        // The last name of each enum is an end, not a cell.
+        expected.pop();
+        let rows = api.lines().skip_while(|line| *line != heading).skip(2);
+        let mut found = Vec::new();
+        for row in rows.take_while(|line| line.starts_with('|')) {
+            let mut parts = row.split('|').map(str::trim).skip(1);
+            let first: u64 = parts
+                .next()
+                .unwrap()
+                .split(' ')
+                .next()
+                .unwrap()
+                .parse()
+                .unwrap();
+            let names = parts.next().unwrap().split(", ");
+            found.extend(names.zip(first..).map(|(cell, k)| (cell.to_string(), k)));
+        }
+        let expected = expected
+            .iter()
+            .map(|entry| (entry.name.to_lowercase().replace('_', " "), entry.number));
+        assert_eq!(found, expected.collect::<Vec<_>>());
+    }
+}
+
+#[test]
+fn api_says_the_header_s_limits() {
+    let api = file("docs/API.md");
+    assert!(api.contains(&format!("{} numbers of 32 bits", defined("STATE_CELLS"))));
+    let stack: u64 = defined("STACK_BYTES").parse().unwrap();
+    assert!(api.contains(&format!("{} KiB of stack", stack / 1_024)));
+}
+
+#[test]
+fn the_changelog_begins_with_this_version() {
+    let changelog = file("CHANGELOG.md");
+    let first = changelog.lines().find_map(|line| line.strip_prefix("## "));
+    let version = first.and_then(|heading| heading.split(' ').next());
+    assert_eq!(version, Some(env!("CARGO_PKG_VERSION")));
+}

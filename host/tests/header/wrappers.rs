@@ -1,0 +1,58 @@
+//! The Rust wrappers' names, words and limits.
+use crate::parse::{constants, defined, entries, refusals, words, Entry};
+use lampthistle::{Answer, MOST_TICKS, RATE, STATE_CELLS, TICK_NUMBERS};
+
+fn pairs(entries: Vec<Entry>) -> Vec<(String, u64)> {
+    entries
+        .into_iter()
+        .map(|entry| (entry.name, entry.number))
+        .collect()
+}
+
+#[test]
+fn cells_have_the_header_s_names_and_numbers() {
+    let mut all = pairs(entries("lampthistle_cell"));
+    all.extend(pairs(entries("lampthistle_channel_cell")));
+    assert_eq!(all.len(), 25);
+    assert_eq!(constants("host/src/cell.rs"), all);
+}
+
+#[test]
+fn refusals_have_the_header_s_names_and_numbers() {
+    let all = pairs(refusals());
+    assert_eq!(all.len(), 18);
+    assert_eq!(constants("host/src/refusal.rs"), all);
+}
+
+#[test]
+fn answers_have_the_header_s_words() {
+    let answer = |number| Answer {
+        number,
+        place: 0,
+        count: 0,
+    };
+    assert_eq!(answer(0).meaning(), words("ACCEPTED"));
+    let known = refusals();
+    for number in 1..=64 {
+        let meaning = answer(number).meaning();
+        match known.iter().find(|entry| entry.number == number) {
+            Some(entry) => assert_eq!(meaning, words(&format!("REFUSED_{}", entry.name))),
+            None => assert_eq!(meaning, "an unknown refusal", "{number}"),
+        }
+    }
+}
+
+#[test]
+fn limits_are_the_header_s() {
+    assert_eq!(defined("RATE"), RATE.to_string());
+    assert_eq!(defined("STATE_CELLS"), STATE_CELLS.to_string());
+    assert_eq!(defined("TICK_NUMBERS"), TICK_NUMBERS.to_string());
+    assert_eq!(defined("MOST_TICKS"), MOST_TICKS.to_string());
+}
+
+#[test]
+fn the_header_s_version_is_the_package_s() {
+    let version = ["MAJOR", "MINOR", "PATCH"].map(|part| defined(&format!("VERSION_{part}")));
+    assert_eq!(version.join("."), env!("CARGO_PKG_VERSION"));
+    assert_eq!(defined("VERSION_TEXT"), env!("CARGO_PKG_VERSION"));
+}
