@@ -67,14 +67,10 @@ c-test: demo
 	out/stack out/demo.mod
 	for part in panel board; do \
 	    $(CC) -std=c99 $(C_WARNINGS) -Iout examples/$$part.c out/liblampthistle.a -o out/$$part || exit 1; \
+	    $(CXX) -std=c++11 $(C_WARNINGS) -x c++ -Iout examples/$$part.c -x none out/liblampthistle.a -o out/$${part}_cc || exit 1; \
 	done
-	out/panel out/demo.mod out/panel.raw
-	$(PLAY) replay out/demo.mod examples/trial.txt --plain --out out/trial.raw --record out/trial.record
-	$(PLAY) replay out/demo.mod out/trial.record --check
-	cmp -n $$(stat -c %s out/panel.raw) out/panel.raw out/trial.raw
-	out/board out/demo.stream out/demo.mod out/board.raw
-	$(PLAY) play out/demo.mod --once --out out/demo.raw
-	cmp out/board.raw out/demo.raw
+	$(CC) -std=c99 $(C_WARNINGS) -DFIRST_CLOCK=4294967200u -Iout examples/panel.c out/liblampthistle.a -o out/panel_wrap
+	scripts/examples out $(PLAY)
 	$(MAKE) --question lib
 	cp out/demo.mod 'out/the demo.mod'
 	$(MAKE) judge FILE='out/the demo.mod'

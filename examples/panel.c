@@ -1,13 +1,18 @@
-/* panel MODULE OUT: a panel's firmware in small. A sound driver asks for blocks of 512 frames; the panel plays the module one tick a
-   call to fill them, and between two ticks answers touches and page changes. Its events come from the table below; the frames go to
-   OUT as 16-bit numbers. */
-#include "lampthistle.h"
-#include <stdio.h>
-#include <string.h>
+/* panel MODULE OUT RECORD: a panel's firmware in small. A sound driver asks for blocks of 512 frames; the panel plays the module one tick
+   a call to fill them, and between two ticks answers touches and page changes. What the person at the panel does comes from the table
+   below. The frames go to OUT as 16-bit numbers, and RECORD says what was done and answered, as a trial record (docs/FORMATS.md) that
+   `lampthistle replay MODULE RECORD --check` plays again. It ends with 1 where the module is refused, and with 2 where a file cannot be
+   read or written. */
+#include "files.h"
 
-enum { BLOCK_NUMBERS = 2 * 512, BLOCKS = 400, LARGEST_MODULE = 1 << 23 };
+enum { BLOCK_NUMBERS = 2 * 512, BLOCKS = 400 };
 
-/* What the person at the panel does: at a clock, turns the page, or touches a song position that was shown `late` ticks before. */
+/* The clock of the first tick. `make c-test` also starts short of 2^32, to hear that nothing changes where the clock wraps. */
+#ifndef FIRST_CLOCK
+#define FIRST_CLOCK 0u
+#endif
+
+/* What is done at a clock: the page is turned, or a position is touched. A touch is `late` ticks on its way. */
 typedef struct event {
     uint32_t clock;
     int turns_page;
@@ -15,49 +20,107 @@ typedef struct event {
 } event;
 
 static const event EVENTS[] = {
-    {50, 0, 3, 1},   /* a touch, 3 ticks on its way */
+    {47, 0, 3, 1},   /* a touch */
+    {91, 0, 10, 2},  /* a touch that arrives after the page was turned */
     {100, 1, 0, 0},  /* the next page */
-    {101, 0, 10, 2}, /* a touch that was made before the page was turned */
     {120, 0, 0, 9},  /* a position that the song does not have */
-    {140, 0, 26, 0}, /* too late */
-    {150, 0, 25, 3}, /* just in time */
+    {114, 0, 26, 0}, /* too late */
+    {125, 0, 25, 3}, /* just in time */
 };
 enum { EVENT_COUNT = sizeof EVENTS / sizeof EVENTS[0] };
 
 typedef struct panel {
-    const uint8_t *module;
+    uint8_t *module;
     size_t length;
     lampthistle_state state;
-    unsigned next_event;
-    uint32_t page_before, page_turned; /* touches carry the page that was shown when they were made */
+    uint32_t shown[EVENT_COUNT]; /* the page that was shown when each touch was made */
     int16_t tick[LAMPTHISTLE_TICK_NUMBERS];
     size_t taken, filled; /* numbers of `tick` that the driver has, and that there are */
+    uint32_t ticks;       /* played since the record's last line */
+    uint64_t sum;         /* of all frames */
+    FILE *out, *record;
 } panel;
 
-static void tell(const char *what, const panel *p, const uint64_t answer[3]) {
-    printf("clock %lu: %s: %lu, now at position %lu, page %lu\n", (unsigned long)p->state.cell[LAMPTHISTLE_CLOCK], what,
-           (unsigned long)answer[0], (unsigned long)p->state.cell[LAMPTHISTLE_POSITION],
-           (unsigned long)p->state.cell[LAMPTHISTLE_PAGE]);
+/* ---- the record */
+/* FNV-1a of 64 bits. */
+#define SUM_START UINT64_C(0xcbf29ce484222325)
+
+static uint64_t add_byte(uint64_t sum, unsigned byte) {
+    return (sum ^ byte) * UINT64_C(0x100000001b3);
 }
 
-/* Takes the events whose clock has come. A refused one changes nothing, and needs no care. */
-static void take_events(panel *p) {
-    uint32_t *cell = p->state.cell;
-    uint64_t answer[3];
-    for (; p->next_event < EVENT_COUNT && EVENTS[p->next_event].clock <= cell[LAMPTHISTLE_CLOCK]; p->next_event++) {
-        const event *e = &EVENTS[p->next_event];
-        if (e->turns_page) {
-            p->page_before = cell[LAMPTHISTLE_PAGE];
-            p->page_turned = cell[LAMPTHISTLE_CLOCK];
-            lampthistle_change_page(p->module, p->length, cell, answer);
-            tell("page", p, answer);
-        } else {
-            uint32_t made = cell[LAMPTHISTLE_CLOCK] - e->late;
-            uint32_t page = made < p->page_turned ? p->page_before : cell[LAMPTHISTLE_PAGE];
-            lampthistle_touch(p->module, p->length, cell, page, made, e->position, answer);
-            tell("touch", p, answer);
-        }
+static void begin_record(panel *p) {
+    uint64_t sum = SUM_START;
+    size_t k;
+    for (k = 0; k < p->length; k++) sum = add_byte(sum, p->module[k]);
+    fprintf(p->record, "record 1\nprogram panel %s\nmodule %016" PRIx64 "\n", LAMPTHISTLE_VERSION_TEXT, sum);
+    p->sum = SUM_START;
+}
+
+static void add_frames(panel *p) {
+    size_t k;
+    for (k = 0; k < p->filled; k++) {
+        unsigned number = (uint16_t)p->tick[k];
+        p->sum = add_byte(add_byte(p->sum, number & 0xFF), number >> 8);
     }
+}
+
+/* A call's results: its answer, the clock after it, and the sum so far. */
+static void write_results(panel *p, const uint64_t *answer) {
+    fprintf(p->record, " = %" PRIu64 " %" PRIu64 " %" PRIu64 " %" PRIu32 " %016" PRIx64 "\n", answer[LAMPTHISTLE_NUMBER],
+            answer[LAMPTHISTLE_PLACE], answer[LAMPTHISTLE_COUNT], p->state.cell[LAMPTHISTLE_CLOCK], p->sum);
+}
+
+/* The ticks since the last line, as one call. */
+static void write_ticks(panel *p) {
+    const uint64_t answer[LAMPTHISTLE_ANSWER_CELLS] = {LAMPTHISTLE_ACCEPTED, 0, p->ticks};
+    if (p->ticks == 0) return;
+    fprintf(p->record, "play %" PRIu32, p->ticks);
+    write_results(p, answer);
+    p->ticks = 0;
+}
+
+/* ---- the panel */
+static void turn_page(panel *p) {
+    uint64_t answer[LAMPTHISTLE_ANSWER_CELLS];
+    write_ticks(p);
+    lampthistle_change_page(p->module, p->length, p->state.cell, answer);
+    fprintf(p->record, "page");
+    write_results(p, answer);
+}
+
+/* A refused touch changes nothing, and needs no care. */
+static void touch(panel *p, uint32_t page, uint32_t made, uint32_t position) {
+    uint64_t answer[LAMPTHISTLE_ANSWER_CELLS];
+    write_ticks(p);
+    lampthistle_touch(p->module, p->length, p->state.cell, page, made, position, answer);
+    fprintf(p->record, "touch %" PRIu32 " %" PRIu32 " %" PRIu32, page, made, position);
+    write_results(p, answer);
+}
+
+/* Takes what is done at this clock. Clocks wrap at 2^32: an age, clock minus made modulo 2^32, says how long ago something was; a
+   clock that is smaller need not be earlier. */
+static void take_events(panel *p) {
+    size_t k;
+    for (k = 0; k < EVENT_COUNT; k++) {
+        const event *e = &EVENTS[k];
+        uint32_t made = FIRST_CLOCK + e->clock;
+        uint32_t age = p->state.cell[LAMPTHISTLE_CLOCK] - made;
+        if (age == 0) p->shown[k] = p->state.cell[LAMPTHISTLE_PAGE];
+        if (age == e->late && e->turns_page) turn_page(p);
+        if (age == e->late && !e->turns_page) touch(p, p->shown[k], made, e->position);
+    }
+}
+
+static int play_tick(panel *p) {
+    uint64_t answer[LAMPTHISTLE_ANSWER_CELLS];
+    lampthistle_play(p->module, p->length, p->state.cell, 1, p->tick, LAMPTHISTLE_TICK_NUMBERS, answer);
+    if (answer[LAMPTHISTLE_NUMBER] != LAMPTHISTLE_ACCEPTED) return 0;
+    p->taken = 0;
+    p->filled = LAMPTHISTLE_NUMBERS_AT(p->state.cell[LAMPTHISTLE_TEMPO]);
+    p->ticks++;
+    add_frames(p);
+    return 1;
 }
 
 /* The driver's call: fills a block, tick by tick. Whether the module could be played. */
@@ -65,12 +128,8 @@ static int pull(panel *p, int16_t *block, size_t numbers) {
     while (numbers > 0) {
         size_t part = p->filled - p->taken;
         if (part == 0) {
-            uint64_t answer[3];
             take_events(p);
-            lampthistle_play(p->module, p->length, p->state.cell, 1, p->tick, LAMPTHISTLE_TICK_NUMBERS, answer);
-            if (answer[0] != 0) return 0;
-            p->taken = 0;
-            p->filled = LAMPTHISTLE_NUMBERS_AT(p->state.cell[LAMPTHISTLE_TEMPO]);
+            if (!play_tick(p)) return 0;
             continue;
         }
         if (part > numbers) part = numbers;
@@ -82,24 +141,42 @@ static int pull(panel *p, int16_t *block, size_t numbers) {
     return 1;
 }
 
-int main(int words, char **word) {
-    static uint8_t module[LARGEST_MODULE];
-    static panel p;
+static int play_blocks(panel *p, char **word) {
     int16_t block[BLOCK_NUMBERS];
-    uint64_t answer[3];
-    FILE *in = words == 3 ? fopen(word[1], "rb") : NULL;
-    FILE *out = in ? fopen(word[2], "wb") : NULL;
-    if (!out) return fprintf(stderr, "usage: panel MODULE OUT, with files that can be opened\n"), 2;
-    p.module = module;
-    p.length = fread(module, 1, sizeof module, in);
-    lampthistle_judge(p.module, p.length, answer);
-    if (answer[0] != 0) {
-        printf("refused %lu at %lu\n", (unsigned long)answer[0], (unsigned long)answer[1]);
-        return 1;
+    int k;
+    for (k = 0; k < BLOCKS; k++) {
+        if (!pull(p, block, BLOCK_NUMBERS)) return REFUSED;
+        if (fwrite(block, sizeof *block, BLOCK_NUMBERS, p->out) != BLOCK_NUMBERS) return cannot(word[2]);
     }
-    lampthistle_fresh(p.state.cell);
-    for (int k = 0; k < BLOCKS; k++)
-        if (!pull(&p, block, BLOCK_NUMBERS) || fwrite(block, sizeof *block, BLOCK_NUMBERS, out) != BLOCK_NUMBERS) return 2;
-    printf("clock %lu: %d blocks\n", (unsigned long)p.state.cell[LAMPTHISTLE_CLOCK], BLOCKS);
-    return fclose(out) == 0 ? 0 : 2;
+    write_ticks(p);
+    if (fflush(p->out) != 0) return cannot(word[2]);
+    if (ferror(p->record) || fflush(p->record) != 0) return cannot(word[3]);
+    return DONE;
+}
+
+static int run(panel *p, char **word) {
+    uint64_t answer[LAMPTHISTLE_ANSWER_CELLS];
+    p->module = read_file(word[1], &p->length);
+    if (!p->module) return CANNOT;
+    lampthistle_judge(p->module, p->length, answer);
+    if (answer[LAMPTHISTLE_NUMBER] != LAMPTHISTLE_ACCEPTED) return refused(word[1], answer);
+    p->out = fopen(word[2], "wb");
+    if (!p->out) return cannot(word[2]);
+    p->record = fopen(word[3], "w");
+    if (!p->record) return cannot(word[3]);
+    begin_record(p);
+    lampthistle_fresh(p->state.cell);
+    p->state.cell[LAMPTHISTLE_CLOCK] = FIRST_CLOCK;
+    return play_blocks(p, word);
+}
+
+int main(int words, char **word) {
+    static panel p;
+    int status;
+    if (words != 4) return fprintf(stderr, "usage: panel MODULE OUT RECORD\n"), CANNOT;
+    status = run(&p, word);
+    if (p.out) fclose(p.out);
+    if (p.record) fclose(p.record);
+    free(p.module);
+    return status;
 }
