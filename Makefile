@@ -2,10 +2,11 @@
 # make demo                 writes a module, plays it, translates it, plays its stream, and compares; all in out/
 # make judge FILE=song.mod  judges a file
 # make test                 everything: the proofs, the programs, the host's tests (.ci/run)
-# make host-test            the host's tests alone: c-test, robust and cargo's
+# make host-test            the host's tests alone: c-test, robust, install-test and cargo's
 # make bench                the benchmarks, with other players where they are installed; make bench-players installs them first
 # make compare COUNT=1000000 [SEED=0]   the proved library against the second implementation, on so many generated inputs
-# make install [PREFIX=/usr/local] [DESTDIR=]   command, library and header
+# make install [PREFIX=/usr/local] [DESTDIR=]   command, library, header, manual page and completion, as make built them
+# make uninstall [PREFIX=..] [DESTDIR=]         takes the same files away
 CARGO := cargo
 CC ?= cc
 CXX ?= c++
@@ -18,6 +19,10 @@ export FILE
 C_WARNINGS := -Wall -Wextra -Werror -pedantic
 BUILT := host/target/release
 PLAY := $(BUILT)/lampthistle
+# Where install puts things, and what it puts there.
+ROOT = $(DESTDIR)$(PREFIX)
+INSTALLED := bin/lampthistle lib/liblampthistle.a lib/pkgconfig/lampthistle.pc include/lampthistle.h \
+    share/man/man1/lampthistle.1 share/bash-completion/completions/lampthistle
 
 # One archive for C, C++ and every cargo profile.
 export LAMPTHISTLE_LIB_DIR := $(CURDIR)/out
@@ -53,7 +58,7 @@ test:
 	.ci/run
 
 # What the gate runs after the proofs.
-host-test: c-test robust
+host-test: c-test robust install-test
 	$(CARGO) test --locked --quiet
 
 # The archive and the header as C and C++ users get them, and the examples.
@@ -81,10 +86,26 @@ robust: all
 	rm -rf out/damaged && $(BUILT)/damaged out/damaged
 	scripts/memcheck out/robust out/damaged
 
-install: all
-	install -D -m 755 $(PLAY) $(DESTDIR)$(PREFIX)/bin/lampthistle
-	install -D -m 644 out/liblampthistle.a $(DESTDIR)$(PREFIX)/lib/liblampthistle.a
-	install -D -m 644 out/lampthistle.h $(DESTDIR)$(PREFIX)/include/lampthistle.h
+# Installing into a folder of its own, using what is there, and taking it away.
+install-test: all
+	scripts/installed out/installed
+
+# What make built is installed as it is: nothing is proved or built again, so that another user can do it, without the kit.
+install:
+	@for file in $(PLAY) out/liblampthistle.a out/lampthistle.h; do \
+	    test -f $$file || { echo "$$file is not there: run make first" >&2; exit 1; }; \
+	done
+	install -D -m 755 $(PLAY) "$(ROOT)/bin/lampthistle"
+	install -D -m 644 out/liblampthistle.a "$(ROOT)/lib/liblampthistle.a"
+	install -D -m 644 out/lampthistle.h "$(ROOT)/include/lampthistle.h"
+	install -D -m 644 docs/lampthistle.1 "$(ROOT)/share/man/man1/lampthistle.1"
+	install -D -m 644 scripts/completion.bash "$(ROOT)/share/bash-completion/completions/lampthistle"
+	version=$$(sed -n 's/.*LAMPTHISTLE_VERSION_TEXT "\(.*\)"/\1/p' out/lampthistle.h) && \
+	    sed -e 's|@PREFIX@|$(PREFIX)|' -e "s|@VERSION@|$$version|" include/lampthistle.pc.in >out/lampthistle.pc
+	install -D -m 644 out/lampthistle.pc "$(ROOT)/lib/pkgconfig/lampthistle.pc"
+
+uninstall:
+	cd "$(ROOT)" && rm -f $(INSTALLED)
 
 # The folders stand among the sources, so that a file taken away counts as a change.
 out/liblampthistle.a: crates.txt $(shell find crates)
@@ -99,4 +120,4 @@ out/lampthistle.h: include/lampthistle.h
 clean:
 	rm -rf out target host/target
 
-.PHONY: all lib judge demo bench bench-players compare test host-test c-test robust install clean
+.PHONY: all lib judge demo bench bench-players compare test host-test c-test robust install-test install uninstall clean

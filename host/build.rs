@@ -1,4 +1,5 @@
-//! Links the proved archive, which `rt staticlib` makes.
+//! Links the proved archive, which `rt staticlib` makes, and hands the package its release: its version, with the commit where it is built
+//! in a git repository.
 //!
 //! LAMPTHISTLE_LIB_DIR: a folder that holds liblampthistle.a already; `rt` is then not run.
 use std::path::{Path, PathBuf};
@@ -10,6 +11,13 @@ const CRATE: &str = "capi";
 const ARCHIVE: &str = "liblampthistle.a";
 
 fn main() {
+    let manifest = env::var_os("CARGO_MANIFEST_DIR").expect("cargo sets it");
+    let root = Path::new(&manifest).parent().expect("the repository");
+    link(root);
+    println!("cargo:rustc-env=LAMPTHISTLE_RELEASE={}", release(root));
+}
+
+fn link(root: &Path) {
     println!("cargo:rerun-if-env-changed=LAMPTHISTLE_LIB_DIR");
     let out = PathBuf::from(env::var_os("OUT_DIR").expect("cargo sets OUT_DIR"));
     let made = match env::var_os("LAMPTHISTLE_LIB_DIR") {
@@ -18,10 +26,7 @@ fn main() {
             println!("cargo:rerun-if-changed={}", given.display());
             given
         }
-        None => {
-            let manifest = env::var_os("CARGO_MANIFEST_DIR").expect("cargo sets it");
-            prove(Path::new(&manifest).parent().expect("the repository"))
-        }
+        None => prove(root),
     };
     // A copy: `rt ci` removes target/, and a link must not depend on when that was.
     fs::copy(&made, out.join(ARCHIVE))
@@ -49,4 +54,28 @@ fn prove(root: &Path) -> PathBuf {
         );
     }
     root.join("target/staticlib").join(format!("lib{CRATE}.a"))
+}
+
+/// The version, and the commit in brackets; a source tree without git has the version alone.
+fn release(root: &Path) -> String {
+    let version = env::var("CARGO_PKG_VERSION").expect("cargo sets it");
+    // Git's log of the branch grows with every commit and checkout. Named though it is missing, it would count as changed each time.
+    let log = git(root, &["rev-parse", "--git-path", "logs/HEAD"]).map(|log| root.join(log));
+    if let Some(log) = log.filter(|log| log.exists()) {
+        println!("cargo:rerun-if-changed={}", log.display());
+    }
+    match git(root, &["rev-parse", "--short=12", "HEAD"]) {
+        Some(commit) => format!("{version} ({commit})"),
+        None => version,
+    }
+}
+
+/// What git says of the repository at `root`, and of no other that it may lie in.
+fn git(root: &Path, words: &[&str]) -> Option<String> {
+    if !root.join(".git").exists() {
+        return None;
+    }
+    let ran = Command::new("git").args(words).current_dir(root).output();
+    let said = ran.ok().filter(|ran| ran.status.success())?;
+    Some(String::from_utf8(said.stdout).ok()?.trim().to_string())
 }

@@ -17,6 +17,9 @@ pub use play::{
 };
 pub use stream::{play_stream, translate, MOST_TICKS};
 
+/// This package's version, with the commit that it was built from where that is known: `0.1.0 (1856cfe0f1a2)`.
+pub const RELEASE: &str = env!("LAMPTHISTLE_RELEASE");
+
 /// Whether the bytes are a module that can be played. The count is 0.
 pub fn judge(file: &[u8]) -> Answer {
     let mut answer = [0; 3];

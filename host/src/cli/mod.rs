@@ -96,7 +96,7 @@ fn dispatch(words: &[OsString]) -> Result<bool, Stop> {
         Some("help") if words.len() > 1 => run_command(named(&words[1])?, &["--help".into()]),
         Some("--help" | "-h" | "help") => output::say(HELP).map(|()| true),
         Some("--version" | "-V") => {
-            output::say(concat!("lampthistle ", env!("CARGO_PKG_VERSION"), "\n")).map(|()| true)
+            output::say(&format!("lampthistle {}\n", lampthistle::RELEASE)).map(|()| true)
         }
         _ => run_command(named(first)?, &words[1..]),
     }
