@@ -28,7 +28,7 @@ INSTALLED := bin/lampthistle lib/liblampthistle.a lib/pkgconfig/lampthistle.pc i
 export LAMPTHISTLE_LIB_DIR := $(CURDIR)/out
 
 all: lib
-	$(CARGO) build --release --locked
+	$(CARGO) build --release --locked --quiet
 
 lib: out/liblampthistle.a out/lampthistle.h
 
@@ -107,10 +107,11 @@ install:
 uninstall:
 	cd "$(ROOT)" && rm -f $(INSTALLED)
 
-# The folders stand among the sources, so that a file taken away counts as a change.
+# The folders stand among the sources, so that a file taken away counts as a change. What rt says is shown where it fails.
 out/liblampthistle.a: crates.txt $(shell find crates)
 	@mkdir -p out
-	rt staticlib capi
+	@echo 'proving the library: about three minutes from nothing (out/proofs.log)'
+	@rt staticlib capi >out/proofs.log 2>&1 || { cat out/proofs.log; exit 1; }
 	cp target/staticlib/libcapi.a $@
 
 out/lampthistle.h: include/lampthistle.h
