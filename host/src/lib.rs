@@ -3,6 +3,21 @@
 //!
 //! An accepted call answers number and place 0. A refused call answers the refusal's number and place, and leaves the state and every
 //! buffer that it was lent as they were.
+//!
+//! A module is played a tick a call:
+//!
+//! ```
+//! fn first_tick(file: &[u8]) -> Result<Vec<i16>, lampthistle::Refusal> {
+//!     let mut state = lampthistle::fresh();
+//!     let mut tick = vec![0; lampthistle::TICK_NUMBERS];
+//!     lampthistle::play(file, &mut state, 1, &mut tick).accepted()?;
+//!     tick.truncate(2 * state.last_tick_frames());
+//!     Ok(tick)
+//! }
+//!
+//! let refusal = first_tick(b"no module").unwrap_err();
+//! assert_eq!(refusal.to_string(), "refused 1 at 9: the file is shorter than 1,084 bytes");
+//! ```
 
 mod answer;
 pub mod cell;
