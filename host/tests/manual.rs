@@ -1,4 +1,5 @@
 //! docs/lampthistle.1 names every command and every option that the program's help names.
+use std::collections::BTreeSet;
 use std::path::Path;
 use std::process::Command;
 
@@ -15,18 +16,16 @@ fn manual() -> String {
     text.replace("\\-", "-")
 }
 
-/// The commands of the overview, a line each.
-fn commands() -> Vec<String> {
+/// The commands of the overview.
+fn commands() -> BTreeSet<String> {
     let help = help(&["--help"]);
     let names = help
         .lines()
         .filter_map(|line| line.strip_prefix("  lampthistle ")?.split(' ').next());
-    let mut names: Vec<String> = names
-        .filter(|name| name.starts_with(char::is_lowercase))
-        .map(String::from)
-        .collect();
-    names.dedup();
     names
+        .filter(|name| name.starts_with(char::is_lowercase) && *name != "help")
+        .map(String::from)
+        .collect()
 }
 
 fn options(text: &str) -> impl Iterator<Item = &str> {
@@ -49,23 +48,21 @@ fn the_manual_has_every_command_with_its_options() {
     let (_, common) = manual.split_once("\n.SH OPTIONS").unwrap();
     let commands = commands();
     assert!(commands.len() >= 8, "{commands:?}");
-    for command in commands.iter().filter(|command| *command != "help") {
-        let part = part(&manual, command);
-        for option in options(&help(&[command, "--help"])) {
-            let found = options(&part).chain(options(common)).any(|o| o == option);
-            assert!(found, "{command}: {option}");
-        }
+    let mut missing = Vec::new();
+    for command in commands {
+        let (part, help) = (part(&manual, &command), help(&[&command, "--help"]));
+        let named = |option: &&str| options(&part).chain(options(common)).any(|o| o == *option);
+        let left = options(&help).filter(|option| !named(option));
+        missing.extend(left.map(|option| format!("{command} {option}")));
     }
+    assert!(missing.is_empty(), "not in the manual: {missing:?}");
 }
 
 #[test]
 fn the_manual_names_no_other_option() {
-    let all: String = commands()
-        .iter()
-        .filter(|command| *command != "help")
-        .map(|command| help(&[command, "--help"]))
-        .collect();
-    let known = all + &help(&["--help"]);
+    let commands = commands();
+    let helps = commands.iter().map(|command| help(&[command, "--help"]));
+    let known = helps.collect::<String>() + &help(&["--help"]);
     for option in options(&manual()) {
         assert!(options(&known).any(|o| o == option), "{option}");
     }
