@@ -6,17 +6,17 @@
 use super::input::Source;
 use super::records::{self, Records, CHANNELS};
 use super::stop::Stop;
-use lampthistle::{tick_frames, Answer};
+use lampthistle::{refusal, tick_frames, Answer};
 
 /// Numbers of a piece, about 90 seconds of sound; more where the run-up is longer, so that not all time goes into run-ups.
 const PIECE_NUMBERS: usize = 1 << 23;
 
-/// What the library says of a stream and its module; refusals below 10 are the module's.
+/// What the library says of a stream and its module, by whose name a refusal goes.
 pub fn judge(stream: &Source, file: &Source) -> Result<Answer, Stop> {
     let answer = lampthistle::play_stream(&stream.bytes, &file.bytes, &mut []);
     match answer.number {
         0 => Ok(answer),
-        1..10 => Err(file.refused(answer)),
+        ..=refusal::PERIOD => Err(file.refused(answer)),
         _ => Err(stream.refused(answer)),
     }
 }

@@ -1,25 +1,25 @@
 //! What stands at a refusal's place, in the words of somebody who looks for it in a tracker.
 use super::json::Fields;
 use super::layout::{self, Spot, HEADERS, HEADER_BYTES, SONG_LENGTH, TABLE, TAG};
-use lampthistle::Answer;
+use lampthistle::{refusal, Answer};
 
 /// The place of a module's refusal, and the value found there; empty where the file's length is the place.
 pub fn found(file: &[u8], answer: &Answer) -> Fields {
     let place = answer.place as usize;
     match answer.number {
-        2 => vec![("tag", layout::printable(&file[TAG]).into())],
-        3 => vec![("song_length", file[SONG_LENGTH].into())],
-        4 => vec![
+        refusal::TAG => vec![("tag", layout::printable(&file[TAG]).into())],
+        refusal::SONG_LENGTH => vec![("song_length", file[SONG_LENGTH].into())],
+        refusal::TABLE_ENTRY => vec![
             ("entry", (place - TABLE.start).into()),
             ("pattern", file[place].into()),
         ],
-        5 => vec![
+        refusal::VOLUME => vec![
             ("sample", sample_at(place).into()),
             ("volume", file[place].into()),
         ],
-        6 => looped(file, sample_at(place)),
-        8 => cell(file, place, true),
-        9 => cell(file, place, false),
+        refusal::LOOP => looped(file, sample_at(place)),
+        refusal::SAMPLE_NUMBER => cell(file, place, true),
+        refusal::PERIOD => cell(file, place, false),
         _ => Vec::new(),
     }
 }

@@ -69,9 +69,8 @@ fn run_translate(words: &Words) -> Result<bool, Stop> {
 
 /// The stream of so many ticks. The first call, with no room, asks for the length.
 pub fn translated(source: &Source, ticks: u32) -> Result<Vec<u8>, Stop> {
-    const ROOM_NEEDED: u64 = 12;
     let asked = lampthistle::translate(&source.bytes, ticks, &mut []);
-    if asked.number != ROOM_NEEDED {
+    if asked.number != lampthistle::refusal::ROOM {
         return Err(source.refused(asked));
     }
     let mut room = vec![0; asked.place as usize];
