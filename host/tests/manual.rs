@@ -62,7 +62,7 @@ fn the_manual_has_every_command_with_its_options() {
 fn the_manual_names_no_other_option() {
     let commands = commands();
     let helps = commands.iter().map(|command| help(&[command, "--help"]));
-    let known = helps.collect::<String>() + &help(&["--help"]);
+    let known = helps.collect::<String>() + &help(&["--help"]) + " --help";
     for option in options(&manual()) {
         assert!(options(&known).any(|o| o == option), "{option}");
     }
