@@ -16,7 +16,7 @@ pub fn judge(stream: &Source, file: &Source) -> Result<Answer, Stop> {
     let answer = lampthistle::play_stream(&stream.bytes, &file.bytes, &mut []);
     match answer.number {
         0 => Ok(answer),
-        ..=refusal::PERIOD => Err(file.refused(answer)),
+        refusal::SHORT_FILE..=refusal::PERIOD => Err(file.refused(answer)),
         _ => Err(stream.refused(answer)),
     }
 }

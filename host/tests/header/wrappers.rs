@@ -13,14 +13,14 @@ fn pairs(entries: Vec<Entry>) -> Vec<(String, u64)> {
 fn cells_have_the_header_s_names_and_numbers() {
     let mut all = pairs(entries("lampthistle_cell"));
     all.extend(pairs(entries("lampthistle_channel_cell")));
-    assert_eq!(all.len(), 25);
+    assert!(all.len() > 20, "{all:?}");
     assert_eq!(constants("host/src/cell.rs"), all);
 }
 
 #[test]
 fn refusals_have_the_header_s_names_and_numbers() {
     let all = pairs(refusals());
-    assert_eq!(all.len(), 18);
+    assert!(all.len() > 10, "{all:?}");
     assert_eq!(constants("host/src/refusal.rs"), all);
 }
 
