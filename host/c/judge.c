@@ -24,6 +24,7 @@ int main(void) {
     CHECK(strcmp(lampthistle_refusal_text(9), "a cell's period is neither 0 nor 113 to 856") == 0);
     CHECK(strcmp(lampthistle_refusal_text(UINT64_MAX), "an unknown refusal") == 0);
     CHECK(LAMPTHISTLE_CHANNEL_CELL(LAMPTHISTLE_CHANNELS, 0) == LAMPTHISTLE_STATE_CELLS);
+    CHECK(lampthistle_version() == LAMPTHISTLE_VERSION);
     CHECK(LAMPTHISTLE_SAME_CELLS(LAMPTHISTLE_VERSION + 1));
     CHECK(!LAMPTHISTLE_SAME_CELLS(LAMPTHISTLE_VERSION + 1000));
     return checked("judge");

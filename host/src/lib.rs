@@ -25,15 +25,14 @@ mod play;
 pub mod refusal;
 mod stream;
 mod sys;
+mod version;
 
 pub use answer::{Answer, Refusal};
 pub use play::{
     change_page, fresh, play, tick_frames, touch, State, RATE, STATE_CELLS, TICK_NUMBERS,
 };
 pub use stream::{play_stream, translate, MOST_TICKS};
-
-/// This package's version, with the commit that it was built from where that is known: `0.1.0 (1856cfe0f1a2)`.
-pub const RELEASE: &str = env!("LAMPTHISTLE_RELEASE");
+pub use version::{same_cells, version, RELEASE, VERSION};
 
 /// Whether the bytes are a module that can be played. The count is 0.
 pub fn judge(file: &[u8]) -> Answer {

@@ -5,6 +5,7 @@ type State = [u32; STATE_CELLS];
 type Answer = [u64; 3];
 
 extern "C" {
+    pub fn lampthistle_version() -> u32;
     pub fn lampthistle_judge(file: *const u8, file_len: usize, answer: *mut Answer);
     pub fn lampthistle_fresh(state: *mut State);
     pub fn lampthistle_play(

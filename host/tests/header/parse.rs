@@ -15,7 +15,7 @@ pub fn file(name: &str) -> String {
     std::fs::read_to_string(path).unwrap_or_else(|e| panic!("{name}: {e}"))
 }
 
-fn header() -> String {
+pub fn header() -> String {
     file("include/lampthistle.h")
 }
 

@@ -1,6 +1,6 @@
 //! The Rust wrappers' names, words and limits.
-use crate::parse::{constants, defined, entries, refusals, words, Entry};
-use lampthistle::{Answer, MOST_TICKS, RATE, STATE_CELLS, TICK_NUMBERS};
+use crate::parse::{constants, defined, entries, file, header, refusals, words, Entry};
+use lampthistle::{same_cells, Answer, MOST_TICKS, RATE, STATE_CELLS, TICK_NUMBERS, VERSION};
 
 fn pairs(entries: Vec<Entry>) -> Vec<(String, u64)> {
     entries
@@ -55,4 +55,34 @@ fn the_header_s_version_is_the_package_s() {
     let version = ["MAJOR", "MINOR", "PATCH"].map(|part| defined(&format!("VERSION_{part}")));
     assert_eq!(version.join("."), env!("CARGO_PKG_VERSION"));
     assert_eq!(defined("VERSION_TEXT"), env!("CARGO_PKG_VERSION"));
+    let [major, minor, patch] = version.map(|part| part.parse::<u32>().unwrap());
+    assert_eq!(VERSION, 1_000_000 * major + 1_000 * minor + patch);
+    assert_eq!(lampthistle::version(), VERSION);
+}
+
+#[test]
+fn states_are_kept_while_the_last_number_alone_changes() {
+    assert!(same_cells(VERSION) && same_cells(VERSION + 999));
+    assert!(!same_cells(VERSION + 1_000) && !same_cells(VERSION - 1));
+}
+
+#[test]
+fn the_header_s_calls_are_the_wrappers_and_the_library_s() {
+    fn called<'a>(text: &'a str, before: &str) -> Vec<&'a str> {
+        let lines = text.lines().filter(|line| line.trim().starts_with(before));
+        let mut names: Vec<&str> = lines
+            .map(|line| line.split_once("lampthistle_").unwrap().1)
+            .map(|rest| rest.split_once('(').unwrap().0)
+            .collect();
+        names.sort_unstable();
+        names
+    }
+    let (header, wrappers) = (header(), file("host/src/sys.rs"));
+    let library = file("crates/capi/src/lib.rt");
+    let mut declared = called(&header, "void lampthistle_");
+    declared.extend(called(&header, "uint32_t lampthistle_"));
+    declared.sort_unstable();
+    assert_eq!(called(&wrappers, "pub fn lampthistle_"), declared);
+    let exported = called(&library, "pub extern \"C\" fn lampthistle_");
+    assert_eq!(exported, declared);
 }
