@@ -1,37 +1,37 @@
 -- What the call goes by: 1 to 9, then 21 to 23, then the play.
 -- Assumes nothing.
 use Prim.Native.Nat.{ℕ}
-use mathlib.Core.Path.{_≡_, sym, ap, _∙_}
+use mathlib.Core.Path.{_≡_, sym, ap, subst, _∙_}
 use mathlib.Core.List.{List}
 use lib.IntN.{ℤ}
 use borrow.Author.Tests.{eq-eqb, ne-eqb}
-use Rattle.laws.specs.Refusals.{refusing}
-use Rattle.reader.specs.Answers.{refused}
+use Rattle.common.specs.Answers.{refused, outcome, refusing}
+use Rattle.common.specs.declared.Answer.{Answer}
+use Rattle.reader.specs.File.{lent, fourChannels, moduleOf}
+use Rattle.reader.specs.Judge.{verdict}
+use Rattle.reader.specs.declared.Layout.{Layout}
 use Rattle.voice.specs.Voice.{samplesOf}
-use Rattle.reader.specs.declared.Answer.{Answer}
-use Rattle.reader.specs.declared.Verdict.{Verdict}
-use Rattle.reader.specs.Judge.{judged}
 use Rattle.records.specs.Format.{Decoded, refusal, ticks, decode}
-use Rattle.decoder.specs.Answers.{verdict}
-use Rattle.board.specs.Board.{outcome, playedBy, boardOf, playStream}
+use Rattle.decoder.specs.Answers.{answerOf}
+use Rattle.board.specs.Board.{playedBy, boardOf, playStreamOf}
 
-pub module-accepted : (m : List ℕ) (v : Verdict) → v ≡ judged m → v .number ≡ 0 → judged m .number ≡ 0
-module-accepted m v e z = ap (λ (x : Verdict). x .number) (sym e) ∙ z
+module _ (layout : Layout) (bytes s : List ℕ) (out : List ℤ) (v : Answer) (e : v ≡ verdict (lent layout bytes)) (le : layout ≡ fourChannels) where
+  here : v ≡ verdict (moduleOf bytes)
+  here = subst (λ (l : Layout). v ≡ verdict (lent l bytes)) le e
 
-module _ (m s : List ℕ) (out : List ℤ) (v : Verdict) (e : v ≡ judged m) where
-  pub module-refused : (a : Answer) → (v .number ≡ 0 → ⊥) → a ≡ refused (v .number) (v .place) → outcome a out ≡ playStream m s out
-  unfolding playStream refusing
-  module-refused a h q = rw (← e, ne-eqb (v .number) 0 h, q)
+  pub module-refused : (a : Answer) → (v .number ≡ 0 → ⊥) → a ≡ refused (v .number) (v .place) → outcome a out ≡ playStreamOf bytes s out
+  unfolding playStreamOf refusing
+  module-refused a h q = rw (← here, ne-eqb (v .number) 0 h, q)
 
   module _ (z : v .number ≡ 0) where
-    pub stream-played : (a : Answer) (out′ : List ℤ) → outcome a out′ ≡ boardOf (samplesOf m) s out → outcome a out′ ≡ playStream m s out
-    unfolding playStream refusing
-    stream-played a out′ p = rw (← e, eq-eqb (v .number) 0 z) p
+    pub stream-played : (a : Answer) (out′ : List ℤ) → outcome a out′ ≡ boardOf (layout .samples) (layout .channels) (samplesOf (lent layout bytes)) s out → outcome a out′ ≡ playStreamOf bytes s out
+    unfolding playStreamOf refusing
+    stream-played a out′ p = rw (← here, eq-eqb (v .number) 0 z) (rw le at p)
 
-    pub stream-refused : (u : Verdict) (a : Answer) → u ≡ verdict (decode s) → (u .number ≡ 0 → ⊥) → a ≡ refused (u .number) (u .place) → outcome a out ≡ playStream m s out
-    unfolding playedBy verdict
-    stream-refused u a f n q = stream-played a out (go (decode s) f)
+    pub stream-refused : (last : ℕ) (u a : Answer) → last ≡ layout .samples → u ≡ answerOf (decode last (layout .channels) s) → (u .number ≡ 0 → ⊥) → a ≡ refused (u .number) (u .place) → outcome a out ≡ playStreamOf bytes s out
+    unfolding playedBy answerOf
+    stream-refused last u a l f n q = stream-played a out (go (decode (layout .samples) (layout .channels) s) (rw l at f))
       where
-        go : (d : Decoded) → u ≡ verdict d → outcome a out ≡ playedBy (samplesOf m) d out
+        go : (d : Decoded) → u ≡ answerOf d → outcome a out ≡ playedBy (layout .channels) (samplesOf (lent layout bytes)) d out
         go (refusal number place) x = rw (q, x)
-        go (ticks ts) x = absurd (n (ap (λ (y : Verdict). y .number) x))
+        go (ticks ts) x = absurd (n (ap (λ (y : Answer). y .number) x))

@@ -1,137 +1,135 @@
--- A turn of the loop that plays a stream record by record, as laws over plain variables.
+-- The loop that plays a stream's 16-bit frames: what its needs want, over plain variables.
 -- Assumes nothing.
-use Prim.Native.Nat.{ℕ, zero, suc, _+_, _-_, _≤_, _<_}
+use Prim.Native.Nat.{ℕ, _+_, _-_, _*_, _^_, _≤_, _<_}
 use mathlib.Core.Path.{_≡_, refl, ap, _∙_}
+use mathlib.Core.Bool.{true, false}
 use mathlib.Core.List.{List}
 use native.Mathlib.Omega.{arith}
 use lib.IntN.{ℤ}
 use lib.ListN.{length, getD, take, drop}
+use mir.Syntax.{w64}
+use mir.Val.{Fits}
 use borrow.Rule.Slice.PartMut.{putMid}
-use Rattle.laws.specs.Each.{length-each, getD-each}
-use Rattle.laws.specs.BigEndian.{fourAt}
-use Rattle.laws.specs.Lent.{tail-long, tail-back}
-use Rattle.reader.specs.Answers.{accepted}
-use Rattle.voice.specs.Voice.{samplesOf}
+use Rattle.laws.specs.Lent.{tail-long}
+use Rattle.laws.specs.Each.{getD-each}
+use Rattle.common.specs.Answers.{accepted, outcome}
+use Rattle.common.specs.Bytes.{fourAt}
+use Rattle.common.specs.Limits.{width}
+use Rattle.common.specs.declared.Answer.{Answer}
 use Rattle.ticks.specs.declared.Command.{Command}
-use Rattle.ticks.specs.declared.Tick.{Tick}
-use Rattle.ticks.specs.Legal.{nothing}
-use Rattle.ticks.specs.Play.{over}
-use Rattle.ticks.specs.Playing.{Played, Playing, playing-none, playing-more, playing-full, playing-all}
+use Rattle.ticks.specs.Playing.{Played}
+use Rattle.reader.specs.File.{Module, lent}
+use Rattle.reader.specs.Layouts.{LegalLayout}
+use Rattle.reader.specs.Judge.{verdict}
+use Rattle.reader.specs.Samples.{extentsOf}
 use Rattle.reader.specs.declared.Extent.{Extent}
-use Rattle.reader.specs.declared.Answer.{Answer}
-use Rattle.reader.specs.File.{channels}
-use Rattle.reader.specs.Judge.{judged}
-use Rattle.reader.specs.Accept.{accepted-has}
-use Rattle.reader.specs.Samples.{Sample, none, extentsOf}
+use Rattle.reader.specs.declared.Layout.{Layout}
 use Rattle.voice.specs.declared.Voice.{Voice}
-use Rattle.voice.specs.Voice.{fresh, samplesIn}
-use Rattle.voice.specs.Frames.{blank, sizeAt, size, frames, after, sized}
-use Rattle.voice.specs.Legal.{LegalVoice, Ready}
-use Rattle.voice.specs.Kept.{legal-fresh, after-length, after-sample, after-legal}
-use Rattle.voice.specs.Modules.{table-inside}
+use Rattle.voice.specs.Voice.{freshVoice, samplesIn, samplesOf}
+use Rattle.voice.specs.Frames.{blank}
+use Rattle.voice.specs.LegalFacts.{Ready}
+use Rattle.machine.specs.declared.Machine.{Machine}
+use Rattle.machine.specs.declared.Turn.{Turn}
+use Rattle.machine.specs.Machine.{freshMachine, mechanism, mechanismOf, turned}
+use Rattle.machine.specs.Turn.{turnOf}
+use Rattle.machine.specs.Kept.{machine-fresh}
+use Rattle.machine.specs.Carries.{carries}
+use Rattle.records.specs.Format.{countPlace, recordsPlace, atFirst, readRecord}
 use Rattle.records.specs.Decoded.{stream-of}
-use Rattle.records.specs.Format.{countPlace, recordsPlace, silence, atFirst, recordAt, ticks, decode}
 use Rattle.decoder.specs.declared.Record.{Record}
 use Rattle.decoder.specs.Answers.{asRecord}
-use Rattle.decoder.specs.Remaining.{Good, Left, left-begin, Next, left-next, left-end}
-use Rattle.board.specs.Commands.{command-after}
-use Rattle.board.specs.Board.{outcome, stoppedVoices, played, playedBy, boardOf}
+use Rattle.decoder.specs.Remaining.{Good}
+use Rattle.board.specs.Board.{playedTicks, playedBy, boardOf}
+use Rattle.board.specs.Streaming.{Streaming, streaming-none, streamed-all, next-tempo, next-ready, streamed-full, full-long, streaming-more}
 
--- the registers at first
-silence-at : (n k : ℕ) → getD (silence n) k nothing ≡ nothing
-unfolding silence
-silence-at zero k = refl
-silence-at (suc n) zero = refl
-silence-at (suc n) (suc k) = silence-at n k
+abbrev voicesOf : Machine → List Voice
+voicesOf w = w .voices
 
-pub good-long : (s : List ℕ) → Good s → recordsPlace ≤ length s
-good-long s g = stream-of s (g .its) (g .is) .long
+pub good-long : (last c : ℕ) (s : List ℕ) → Good last c s → recordsPlace ≤ length s
+good-long last c s g = stream-of last c s (g .its) (g .is) .long
 
--- i ticks are played, and those of the other records are left; the voices are legal, and their samples are the registers'
-pub record Turn (m s : List ℕ) (extents : List Extent) (out₀ : List ℤ) (voices : List Voice) (registers : List Command) (from : ℕ) (out : List ℤ) (at i : ℕ) : Type 0 where
-  pub its : List Tick
-  pub is : decode s ≡ ticks its
-  pub rest : List Tick
-  pub left : Left s (fourAt s countPlace - i) registers from rest
-  pub play : Playing size (frames (samplesIn m extents)) (after (samplesIn m extents)) stoppedVoices its out₀ voices rest out at i
-  pub long : length voices ≡ channels
-  pub legal : (k : ℕ) → k < channels → LegalVoice (getD extents (getD voices k blank .sample) none .end) (getD voices k blank)
-  pub sounding : (k : ℕ) → k < channels → getD voices k blank .sample ≡ getD registers k nothing .sample
+fresh-sample : (j : ℕ) → j < width → getD (freshMachine .voices) j blank .sample ≡ 0
+unfolding freshMachine
+fresh-sample j h = ap (λ (v : Voice). v .sample) (getD-each (λ (i : ℕ). freshVoice) width j blank h)
 
-module _ (m s : List ℕ) (extents : List Extent) (out₀ : List ℤ) where
-  abbrev samples : ℕ → Sample
-  samples = samplesIn m extents
+-- the loop runs, with the table of extents, the count and a buffer of the machine's width
+pub record Turning (layout : Layout) (bytes s : List ℕ) (extents : List Extent) (last count : ℕ) (out₀ : List ℤ) (w : Machine) (registers : List Command) (from : ℕ) (out : List ℤ) (at i : ℕ) : Type 0 where
+  pub table : extents ≡ extentsOf (lent layout bytes)
+  pub least : last ≡ layout .samples
+  pub many : count ≡ fourAt s countPlace
+  pub narrow : length out₀ * 2 < 2 ^ 63
+  pub run : Streaming (mechanismOf (lent layout bytes)) voicesOf (lent layout bytes) s freshMachine out₀ w registers from out at i
 
-  pub turn-begin : (voices : List Voice) (registers : List Command) → Good s → voices ≡ stoppedVoices → registers ≡ atFirst → Turn m s extents out₀ voices registers recordsPlace out₀ 0 0
-  unfolding stoppedVoices silence
-  turn-begin voices registers g e q =
-      let z : fourAt s countPlace - 0 ≡ fourAt s countPlace = omega arith in
-      let at : (k : ℕ) → k < channels → getD stoppedVoices k blank ≡ fresh = λ k h. getD-each (λ (j : ℕ). fresh) channels k blank h in
-      record {
-        its = g .its;
-        is = g .is;
-        rest = g .its;
-        left = rw (z, q) (left-begin s (g .its) (g .is));
-        play = rw e (playing-none size (frames samples) (after samples) stoppedVoices (g .its) out₀);
-        long = rw e (length-each (λ (j : ℕ). fresh) channels);
-        legal = λ k h. rw (e, at k h) (legal-fresh _);
-        sounding = λ k h. rw (e, q, at k h, silence-at channels k);
-      }
+pub turning-begin : (layout : Layout) (bytes s : List ℕ) (extents : List Extent) (last count : ℕ) (out : List ℤ) (w : Machine) (registers : List Command) → LegalLayout layout → verdict (lent layout bytes) .number ≡ 0 → Good (layout .samples) (layout .channels) s
+    → extents ≡ extentsOf (lent layout bytes) → last ≡ layout .samples → count ≡ fourAt s countPlace → length out * 2 < 2 ^ 63 → w ≡ freshMachine → registers ≡ atFirst
+    → Turning layout bytes s extents last count out w registers recordsPlace out 0 0
+turning-begin layout bytes s extents last count out w registers y e g t l n b x r =
+    record {
+      table = t;
+      least = l;
+      many = n;
+      narrow = b;
+      run =
+          rw (x, r)
+          (streaming-none (mechanismOf (lent layout bytes)) voicesOf (lent layout bytes) s freshMachine out y e (carries (lent layout bytes) y) g (machine-fresh layout (extentsOf (lent layout bytes)) (y .channels) .voices) (λ j h. fresh-sample j (omega (arith, y .channels))));
+    }
 
-  module _ (e : extents ≡ extentsOf m) (voices : List Voice) (registers : List Command) (from : ℕ) (out : List ℤ) (at i : ℕ) (w : Turn m s extents out₀ voices registers from out at i) where
-    -- the answer of a play that is done
-    done : Played size (frames samples) (after samples) stoppedVoices (w .its) out₀ voices out i → (a : Answer) → a ≡ accepted i → outcome a out ≡ boardOf (samplesOf m) s out₀
-    unfolding playedBy played
-    done p a q = rw (w .is, q, p .count, p .cells, e)
+module _ {layout : Layout} {bytes s : List ℕ} {extents : List Extent} {last count : ℕ} {out₀ : List ℤ} {w : Machine} {registers : List Command} {from : ℕ} {out : List ℤ} {at i : ℕ} (g : Turning layout bytes s extents last count out₀ w registers from out at i) where
+  abbrev m : Module
+  m = lent layout bytes
 
-    -- no record is left
-    pub turn-all : (count : ℕ) (a : Answer) → count ≡ fourAt s countPlace → count ≤ i → a ≡ accepted i → outcome a out ≡ boardOf (samplesOf m) s out₀
-    turn-all count a n h q =
-        done
-        (playing-all size (frames samples) (after samples) stoppedVoices (w .its) out₀ voices (w .rest) out at i (w .play)
-        (left-end s (fourAt s countPlace) i registers from (w .rest) (omega arith) (w .left)))
-        a q
+  pub turning-layout : LegalLayout layout
+  turning-layout = g .run .layout
 
-    module _ (count : ℕ) (n : count ≡ fourAt s countPlace) (h : i < count) (r : Record) (q : r ≡ asRecord registers from (recordAt registers s from)) where
-      next : Next s (fourAt s countPlace - (i + 1)) registers (w .rest) r
-      next = left-next s (fourAt s countPlace) i registers from (w .rest) r (omega arith) q (w .left)
+  pub turning-few : layout .channels ≤ width
+  turning-few = g .run .layout .channels
 
-      pub turn-tempo : 0 < r .tick .tempo
-      turn-tempo = omega (arith, next .legal .tempo .low)
+  pub turning-within : at ≤ length out
+  turning-within = omega (arith, g .run .play .long, g .run .play .low)
 
-      pub turn-ready : judged m .number ≡ 0 → Ready m extents voices (r .tick .commands)
-      turn-ready j =
+  pub turning-narrow : length out * 2 < 2 ^ 63
+  turning-narrow = rw (g .run .play .long) (g .narrow)
+
+  pub turning-next : (size : ℕ) → size ≤ length (take (length out - at) (drop at out)) → Fits w64 (at + size)
+  turning-next size h = record { fits = omega (arith, tail-long at out, turning-within, turning-narrow) }
+
+  -- the answer of a play that is done
+  done : (end : List ℤ) → Played (mechanismOf m) freshMachine (g .run .its) out₀ w end i → (a : Answer) → a ≡ accepted i → outcome a end ≡ boardOf (layout .samples) (layout .channels) (samplesOf m) s out₀
+  unfolding playedBy playedTicks
+  done end p a q = rw (g .run .is, q, p .count, p .cells)
+
+  pub turning-all : count ≤ i → (a : Answer) → a ≡ accepted i → outcome a out ≡ boardOf (layout .samples) (layout .channels) (samplesOf (lent layout bytes)) s out₀
+  turning-all h = done out (streamed-all (mechanismOf m) voicesOf m s (g .run) (rw (g .many) at h))
+
+  module _ (h : i < count) (r : Record) (q : r ≡ asRecord registers from (readRecord last (layout .channels) s from registers)) where
+    below : i < fourAt s countPlace
+    below = rw (g .many) at h
+
+    record-is : r ≡ asRecord registers from (readRecord (layout .samples) (layout .channels) s from registers)
+    record-is = q ∙ ap (λ (l : ℕ). asRecord registers from (readRecord l (layout .channels) s from registers)) (g .least)
+
+    pub turning-tempo : 0 < r .tick .tempo
+    turning-tempo = next-tempo (mechanismOf m) voicesOf m s (g .run) below r record-is
+
+    pub turning-ready : Ready (lent layout bytes) extents (w .voices) (r .tick .commands)
+    turning-ready = rw (g .table) (next-ready (mechanismOf m) voicesOf m s (g .run) below r record-is)
+
+    module _ (x : Turn) (part : List ℤ) (e : turned x part ≡ turnOf (mechanism (layout .channels) (samplesIn (lent layout bytes) extents)) w (r .tick) (take (length out - at) (drop at out))) where
+      turn-is : turned x part ≡ turnOf (mechanismOf m) w (r .tick) (take (length out - at) (drop at out))
+      turn-is = e ∙ rw (g .table)
+
+      pub turning-full : x .full ≡ true → (a : Answer) → a ≡ accepted i → outcome a (putMid at (length out - at) out part) ≡ boardOf (layout .samples) (layout .channels) (samplesOf (lent layout bytes)) s out₀
+      turning-full f = done (putMid at (length out - at) out part) (streamed-full (mechanismOf m) voicesOf m s (g .run) below r record-is (turned x part) turn-is f)
+
+      pub turning-long : x .full ≡ true → length (putMid at (length out - at) out part) ≡ length out₀
+      turning-long f = full-long (mechanismOf m) voicesOf m s (g .run) below r record-is (turned x part) turn-is f
+
+      pub turning-more : x .full ≡ false → Turning layout bytes s extents last count out₀ (x .machine) (r .tick .commands) (r .next) (putMid at (length out - at) out part) (at + x .size) (i + 1)
+      turning-more f =
           record {
-            inside = table-inside m extents e (accepted-has m j);
-            voices = λ k l. w .legal k (rw (w .long) at l);
-            commands = λ k l. rw (w .sounding k (rw (w .long) at l)) (command-after registers (r .tick .commands) (next .legal .commands) k);
+            table = g .table;
+            least = g .least;
+            many = g .many;
+            narrow = g .narrow;
+            run = streaming-more (mechanismOf m) voicesOf m s (g .run) below r record-is (turned x part) turn-is f;
           }
-
-      module _ (need : ℕ) (z : need ≡ sizeAt (r .tick .tempo)) where
-        -- the next tick does not fit
-        pub turn-full : (a : Answer) → length out - at < need → a ≡ accepted i → outcome a out ≡ boardOf (samplesOf m) s out₀
-        turn-full a l x =
-            done
-            (playing-full size (frames samples) (after samples) stoppedVoices (w .its) out₀ voices (w .rest) out at i (w .play) (sized samples) (r .tick) (next .rest) (next .is) need z l)
-            a x
-
-        module _ (l : need ≤ length out - at) where
-          pub turn-room : sizeAt (r .tick .tempo) ≤ length (take (length out - at) (drop at out))
-          turn-room = omega (arith, tail-long at out)
-
-          -- it fits: its frames go to the cells from `at` on
-          pub turn-more : (voices′ : List Voice) (ys : List ℤ) → judged m .number ≡ 0 → voices′ ≡ after samples voices (r .tick) → ys ≡ over (frames samples voices (r .tick)) (take (length out - at) (drop at out))
-              → Turn m s extents out₀ voices′ (r .tick .commands) (r .next) (putMid at (length out - at) out ys) (at + need) (i + 1)
-          turn-more voices′ ys j a y =
-              record {
-                its = w .its;
-                is = w .is;
-                rest = next .rest;
-                left = next .left;
-                play =
-                    playing-more size (frames samples) (after samples) stoppedVoices (w .its) out₀ voices (w .rest) out at i (w .play) (sized samples) (r .tick) (next .rest) (next .is) need voices′ (putMid at (length out - at) out ys) z l a
-                    (tail-back (over (frames samples voices (r .tick))) at out ys y);
-                long = ap length a ∙ after-length samples voices (r .tick) ∙ w .long;
-                legal = λ k b. rw a (after-legal m extents voices (r .tick) (turn-ready j) k (rw (w .long) b));
-                sounding = λ k b. rw a (after-sample samples voices (r .tick) k (rw (w .long) b));
-              }

@@ -1,78 +1,96 @@
--- Tick lengths and frames follow from the stream's bytes and the samples with their lengths and loops alone, never from patterns or table.
+-- Tick lengths and frames follow from the stream's bytes and the samples with their lengths and loops alone, never from patterns or table (`same-samples`).
 -- Assumes nothing.
-use Prim.Native.Nat.{ℕ, zero, suc, _-_, _≤_}
+use Prim.Native.Nat.{ℕ, zero, suc, _-_, _≤_, _<_}
 use mathlib.Core.Path.{_≡_, refl, sym, ap, ap₂, _∙_}
 use mathlib.Core.Bool.{cond}
 use mathlib.Core.List.{List, [], _∷_, _++_}
+use native.Mathlib.Omega.{arith}
 use lib.Dec.{leb}
 use lib.IntN.{ℤ}
-use lib.ListN.{length, take}
-use Rattle.laws.specs.Refusals.{refusing}
-use Rattle.reader.specs.Answers.{accepted}
-use Rattle.voice.specs.Voice.{samplesOf}
+use lib.ListN.{length, getD, take}
+use Rattle.common.specs.Answers.{accepted, outcome, refusing}
+use Rattle.common.specs.Limits.{width}
 use Rattle.ticks.specs.declared.Command.{Command}
 use Rattle.ticks.specs.declared.Tick.{Tick}
-use Rattle.ticks.specs.Legal.{lastSample}
-use Rattle.ticks.specs.Play.{over, fit, rendered, playOut}
-use Rattle.reader.specs.Judge.{judged}
+use Rattle.ticks.specs.Commands.{soundingOf}
+use Rattle.ticks.specs.Legal.{LegalTick, LegalTicks, length-sounding}
+use Rattle.ticks.specs.Legal.LegalTicks.{none, more}
+use Rattle.ticks.specs.Play.{over, Mechanism, fit, rendered, playOut}
+use Rattle.reader.specs.File.{moduleOf, sampleCount, channelCount}
+use Rattle.reader.specs.Layouts.{module-legal}
+use Rattle.reader.specs.Judge.{verdict}
 use Rattle.reader.specs.Samples.{Sample, extentsOf, sampleOf}
-use Rattle.voice.specs.declared.Voice.{Voice}
-use Rattle.voice.specs.Frames.{size, frames, after}
-use Rattle.voice.specs.Modules.{sample-is, frames-same, after-same}
-use Rattle.records.specs.Legal.{CommandsAfter, AllLegalAfter}
-use Rattle.records.specs.Decoded.{stream-of}
+use Rattle.voice.specs.Voice.{samplesOf}
+use Rattle.voice.specs.Modules.{sample-is}
+use Rattle.machine.specs.declared.Machine.{Machine}
+use Rattle.machine.specs.Machine.{freshMachine, mechanism}
+use Rattle.machine.specs.Kept.{frames-same, after-same}
 use Rattle.records.specs.Format.{atFirst, Decoded, refusal, ticks, decode}
-use Rattle.board.specs.Commands.{command-after}
-use Rattle.board.specs.Board.{outcome, stoppedVoices, played, playedBy, boardOf, playStream}
+use Rattle.records.specs.Registers.{first-long}
+use Rattle.records.specs.Decoded.{stream-of}
+use Rattle.board.specs.Board.{playedTicks, playedBy, boardOf, playStreamOf}
 
--- ---- samples that are equal by their numbers
-module _ (samples others : ℕ → Sample) (same : (k : ℕ) → k ≤ lastSample → samples k ≡ others k) where
-  -- the commands of a good record name samples to 31
-  module _ (vs : List Voice) (rs : List Command) (t : Tick) (l : CommandsAfter rs (t .commands)) where
-    tick-frames : frames samples vs t ≡ frames others vs t
-    tick-frames = frames-same samples others vs t (λ i h. same _ (command-after rs (t .commands) l i .sample))
+-- ---- samples that are equal by their numbers, up to the last
+module _ (last c : ℕ) (room : c ≤ width) (samples others : ℕ → Sample) (same : (k : ℕ) → k ≤ last → samples k ≡ others k) where
+  abbrev k : Mechanism ℤ Machine Tick
+  k = mechanism c samples
 
-    tick-after : after samples vs t ≡ after others vs t
-    tick-after = after-same samples others vs t (λ i h. same _ (command-after rs (t .commands) l i .sample))
+  abbrev k′ : Mechanism ℤ Machine Tick
+  k′ = mechanism c others
 
-  fit-same : (room : ℕ) (vs : List Voice) (rs : List Command) (ts : List Tick) → AllLegalAfter rs ts → fit size (after samples) room vs ts ≡ fit size (after others) room vs ts
+  -- the commands of a legal tick name samples to the last
+  module _ (w : Machine) (soundings : List ℕ) (long : length soundings ≡ width) (t : Tick) (l : LegalTick last soundings t) where
+    tick-frames : k .frames w t ≡ k′ .frames w t
+    tick-frames = frames-same c samples others w t (λ i h. same _ (l .commands i (omega arith) .sample))
+
+    tick-after : k .after w t ≡ k′ .after w t
+    tick-after = after-same c samples others w t (λ i h. same _ (l .commands i (omega arith) .sample))
+
+    next-long : length (soundingOf (t .commands)) ≡ width
+    next-long = length-sounding (t .commands) ∙ (l .long ∙ long)
+
+  fit-same : (room : ℕ) (w : Machine) (soundings : List ℕ) → length soundings ≡ width → (ts : List Tick) → LegalTicks last soundings ts → fit k room w ts ≡ fit k′ room w ts
   unfolding fit
-  fit-same room vs rs [] l = refl
-  fit-same room vs rs (t ∷ ts) l =
-      ap (λ (n : ℕ). cond (leb (size vs t) room) (suc n) 0)
-      (ap (λ (ws : List Voice). fit size (after samples) (room - size vs t) ws ts) (tick-after vs rs t (l .0 .commands)) ∙ fit-same (room - size vs t) (after others vs t) (t .commands) ts (l .1))
+  fit-same room w soundings long [] l = refl
+  fit-same room w soundings long (t ∷ ts) (more l ls) =
+      ap (λ (n : ℕ). cond (leb (k .size w t) room) (suc n) 0)
+      (ap (λ (x : Machine). fit k (room - k .size w t) x ts) (tick-after w soundings long t l)
+      ∙ fit-same (room - k .size w t) (k′ .after w t) (soundingOf (t .commands)) (next-long w soundings long t l) ts ls)
 
-  rendered-same : (vs : List Voice) (rs : List Command) (ts : List Tick) (k : ℕ) → AllLegalAfter rs ts → rendered (frames samples) (after samples) vs (take k ts) ≡ rendered (frames others) (after others) vs (take k ts)
+  rendered-same : (w : Machine) (soundings : List ℕ) → length soundings ≡ width → (ts : List Tick) (n : ℕ) → LegalTicks last soundings ts → rendered k w (take n ts) ≡ rendered k′ w (take n ts)
   unfolding rendered
-  rendered-same vs rs ts zero l = refl
-  rendered-same vs rs [] (suc k) l = refl
-  rendered-same vs rs (t ∷ ts) (suc k) l =
-      ap₂ _++_ (tick-frames vs rs t (l .0 .commands))
-      (ap (λ (ws : List Voice). rendered (frames samples) (after samples) ws (take k ts)) (tick-after vs rs t (l .0 .commands)) ∙ rendered-same (after others vs t) (t .commands) ts k (l .1))
+  rendered-same w soundings long ts zero l = refl
+  rendered-same w soundings long [] (suc n) l = refl
+  rendered-same w soundings long (t ∷ ts) (suc n) (more l ls) =
+      ap₂ _++_ (tick-frames w soundings long t l)
+      (ap (λ (x : Machine). rendered k x (take n ts)) (tick-after w soundings long t l) ∙ rendered-same (k′ .after w t) (soundingOf (t .commands)) (next-long w soundings long t l) ts n ls)
 
-  played-same : (rs : List Command) (ts : List Tick) (out : List ℤ) → AllLegalAfter rs ts → played samples ts out ≡ played others ts out
-  unfolding played playOut
-  played-same rs ts out l =
+  played-same : (soundings : List ℕ) → length soundings ≡ width → (ts : List Tick) (out : List ℤ) → LegalTicks last soundings ts → playedTicks c samples ts out ≡ playedTicks c others ts out
+  unfolding playedTicks playOut
+  played-same soundings long ts out l =
       ap₂ (λ (n : ℕ) (xs : List ℤ). outcome (accepted n) (over xs out)) f
-      (rendered-same stoppedVoices rs ts (fit size (after samples) (length out) stoppedVoices ts) l ∙ ap (λ (n : ℕ). rendered (frames others) (after others) stoppedVoices (take n ts)) f)
+      (rendered-same freshMachine soundings long ts (fit k (length out) freshMachine ts) l ∙ ap (λ (n : ℕ). rendered k′ freshMachine (take n ts)) f)
     where
-      f : fit size (after samples) (length out) stoppedVoices ts ≡ fit size (after others) (length out) stoppedVoices ts
-      f = fit-same (length out) stoppedVoices rs ts l
+      f : fit k (length out) freshMachine ts ≡ fit k′ (length out) freshMachine ts
+      f = fit-same (length out) freshMachine soundings long ts l
 
-  pub board-same : (stream : List ℕ) (out : List ℤ) → boardOf samples stream out ≡ boardOf others stream out
+  pub board-same : (stream : List ℕ) (out : List ℤ) → boardOf last c samples stream out ≡ boardOf last c others stream out
   unfolding playedBy
-  board-same stream out = go (decode stream) refl
+  board-same stream out = go (decode last c stream) refl
     where
-      go : (d : Decoded) → decode stream ≡ d → playedBy samples d out ≡ playedBy others d out
+      go : (d : Decoded) → decode last c stream ≡ d → playedBy c samples d out ≡ playedBy c others d out
       go (refusal number place) e = refl
-      go (ticks ts) e = played-same atFirst ts out (stream-of stream ts e .its .legal)
+      go (ticks ts) e = played-same (soundingOf atFirst) (length-sounding atFirst ∙ first-long) ts out (stream-of last c stream ts e .legal)
 
 -- two accepted files with equal samples give equal frames, and equal answers, for every stream and output
-pub same-samples : (m m′ : List ℕ) → judged m .number ≡ 0 → judged m′ .number ≡ 0 → ((k : ℕ) → k ≤ lastSample → sampleOf m k ≡ sampleOf m′ k)
-    → (stream : List ℕ) (out : List ℤ) → playStream m stream out ≡ playStream m′ stream out
-unfolding playStream refusing
-same-samples m m′ e e′ same stream out =
+pub same-samples : (bytes bytes′ : List ℕ) → verdict (moduleOf bytes) .number ≡ 0 → verdict (moduleOf bytes′) .number ≡ 0
+    → ((k : ℕ) → k ≤ sampleCount (moduleOf bytes) → sampleOf (moduleOf bytes) k ≡ sampleOf (moduleOf bytes′) k)
+    → (stream : List ℕ) (out : List ℤ) → playStreamOf bytes stream out ≡ playStreamOf bytes′ stream out
+unfolding playStreamOf refusing
+same-samples bytes bytes′ e e′ same stream out =
+    let m = moduleOf bytes in
+    let m′ = moduleOf bytes′ in
     rw (e, e′)
-    (board-same (samplesOf m) (samplesOf m′)
-    (λ k h. sample-is m (extentsOf m) refl k h ∙ same k h ∙ sym (sample-is m′ (extentsOf m′) refl k h))
+    (board-same (sampleCount m) (channelCount m) (module-legal bytes .channels) (samplesOf m) (samplesOf m′)
+    (λ k h. sample-is m (module-legal bytes .samples) (extentsOf m) refl k h ∙ (same k h ∙ sym (sample-is m′ (module-legal bytes′ .samples) (extentsOf m′) refl k h)))
     stream out)

@@ -1,17 +1,19 @@
-// The C library: each public call on plain numbers and slices. An answer is number, place and count; number 0 is accepted. A state is 56
+// The C library: each public call on plain numbers and slices. An answer is number, place and count; number 0 is accepted. A state is
 // cells, and any numbers may stand in them.
 ghost use mathlib.Core.Path.{_≡_};
 ghost use mathlib.Core.Bool.{not};
 ghost use lib.Dec.{eqb};
-ghost use Rattle.cells.specs.Cells.{cellsOf, stateOf};
+ghost use Rattle.reader.specs.Judge.{judgeOf};
+ghost use Rattle.cells.specs.Cells.{stateCells, stateOf};
 ghost use Rattle.player.specs.State.{freshState};
 ghost use Rattle.player.specs.Play.{playOf};
-ghost use Rattle.player.specs.Touch.{changePage, touchOf};
+ghost use Rattle.player.specs.Touch.{changePageOf, touchOf};
 ghost use Rattle.translator.specs.Translate.{translateOf};
-ghost use Rattle.board.specs.Board.{playStream};
-ghost use Rattle.capi.specs.Answers.{judgeAnswer, answerCells, cellsAfter};
+ghost use Rattle.board.specs.Board.{playStreamOf};
+ghost use Rattle.capi.specs.Answers.{answerCells, cellsAfter};
 ghost use Rattle.capi.specs.Version.{version};
-use reader::Answer;
+use cells::CELLS;
+use common::Answer;
 
 // Major times 1,000,000, plus minor times 1,000, plus patch.
 const VERSION: u32 = 1000;
@@ -40,16 +42,16 @@ pub extern "C" fn lampthistle_version() -> u32
 // Judges a file.
 #[no_mangle]
 pub extern "C" fn lampthistle_judge(file: &[u8], answer: &mut [u64; 3])
-    ensures { λ _. ⌜ now (answer .exit) ≡ judgeAnswer (now (file .entry)) ⌝ }
+    ensures { λ _. ⌜ now (answer .exit) ≡ answerCells (judgeOf (now (file .entry))) ⌝ }
 {
-    let v = reader::judge(file);
-    *answer = [v.number as u64, v.place as u64, 0];
+    let a = reader::judge(file);
+    *answer = answer_cells(a);
 }
 
 // Writes the fresh state.
 #[no_mangle]
-pub extern "C" fn lampthistle_fresh(state: &mut [u32; 56])
-    ensures { λ _. ⌜ now (state .exit) ≡ cellsOf freshState ⌝ }
+pub extern "C" fn lampthistle_fresh(state: &mut [u32; CELLS])
+    ensures { λ _. ⌜ now (state .exit) ≡ stateCells freshState ⌝ }
 {
     let fresh = player::fresh();
     *state = cells::cells_of(fresh);
@@ -59,7 +61,7 @@ pub extern "C" fn lampthistle_fresh(state: &mut [u32; 56])
 #[no_mangle]
 pub extern "C" fn lampthistle_play(
     file: &[u8],
-    state: &mut [u32; 56],
+    state: &mut [u32; CELLS],
     ticks: u32,
     out: &mut [i16],
     answer: &mut [u64; 3],
@@ -82,7 +84,7 @@ pub extern "C" fn lampthistle_play(
 #[no_mangle]
 pub extern "C" fn lampthistle_touch(
     file: &[u8],
-    state: &mut [u32; 56],
+    state: &mut [u32; CELLS],
     page: u32,
     made: u32,
     position: u32,
@@ -103,9 +105,13 @@ pub extern "C" fn lampthistle_touch(
 
 // A page change.
 #[no_mangle]
-pub extern "C" fn lampthistle_change_page(file: &[u8], state: &mut [u32; 56], answer: &mut [u64; 3])
-    ensures answered { λ _. ⌜ now (answer .exit) ≡ answerCells (changePage (now (file .entry)) (stateOf (now (state .entry))) .answer) ⌝ }
-    ensures stated { λ _. ⌜ now (state .exit) ≡ cellsAfter (changePage (now (file .entry)) (stateOf (now (state .entry)))) (now (state .entry)) ⌝ }
+pub extern "C" fn lampthistle_change_page(
+    file: &[u8],
+    state: &mut [u32; CELLS],
+    answer: &mut [u64; 3],
+)
+    ensures answered { λ _. ⌜ now (answer .exit) ≡ answerCells (changePageOf (now (file .entry)) (stateOf (now (state .entry))) .answer) ⌝ }
+    ensures stated { λ _. ⌜ now (state .exit) ≡ cellsAfter (changePageOf (now (file .entry)) (stateOf (now (state .entry)))) (now (state .entry)) ⌝ }
 {
     let before = cells::state_of(state);
     let reply = player::change_page(file, before);
@@ -125,8 +131,8 @@ pub extern "C" fn lampthistle_translate(
     room: &mut [u8],
     answer: &mut [u64; 3],
 )
-    ensures answered { λ _. ⌜ now (answer .exit) ≡ answerCells (translateOf (now (file .entry)) ticks (now (room .entry)) .answer) ⌝ }
-    ensures written { λ _. ⌜ now (room .exit) ≡ translateOf (now (file .entry)) ticks (now (room .entry)) .room ⌝ }
+    ensures answered { λ _. ⌜ now (answer .exit) ≡ answerCells (translateOf (now (file .entry)) ticks (now (room .entry)) .reply) ⌝ }
+    ensures written { λ _. ⌜ now (room .exit) ≡ translateOf (now (file .entry)) ticks (now (room .entry)) .out ⌝ }
 {
     let a = translator::translate(file, ticks, room);
     *answer = answer_cells(a);
@@ -140,8 +146,8 @@ pub extern "C" fn lampthistle_play_stream(
     out: &mut [i16],
     answer: &mut [u64; 3],
 )
-    ensures answered { λ _. ⌜ now (answer .exit) ≡ answerCells (playStream (now (file .entry)) (now (stream .entry)) (now (out .entry)) .answer) ⌝ }
-    ensures sounded { λ _. ⌜ now (out .exit) ≡ playStream (now (file .entry)) (now (stream .entry)) (now (out .entry)) .out ⌝ }
+    ensures answered { λ _. ⌜ now (answer .exit) ≡ answerCells (playStreamOf (now (file .entry)) (now (stream .entry)) (now (out .entry)) .reply) ⌝ }
+    ensures sounded { λ _. ⌜ now (out .exit) ≡ playStreamOf (now (file .entry)) (now (stream .entry)) (now (out .entry)) .out ⌝ }
 {
     let a = board::play_stream(stream, file, out);
     *answer = answer_cells(a);

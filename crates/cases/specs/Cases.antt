@@ -6,38 +6,36 @@ use mathlib.Core.Bool.{true, false}
 use mathlib.Core.List.{List, [], _∷_, _++_}
 use lib.IntN.{ℤ, pos, negℤ}
 use lib.ListN.{getD, replicate}
-use Rattle.laws.specs.Each.{each}
-use Rattle.laws.specs.Every.{every}
-use Rattle.laws.specs.Search.{some, total, largest}
-use Rattle.laws.specs.Refusals.{refusing}
+use Rattle.laws.specs.Ranges.{each, partly, every, all, allFrom, some, total, largest}
+use Rattle.ticks.specs.Commands.{nothing}
+use Rattle.common.specs.Answers.{refused, accepted, refusing}
 use Rattle.ticks.specs.declared.Command.{Command}
-use Rattle.ticks.specs.Legal.{nothing}
 use Rattle.reader.specs.declared.Cell.{Cell}
-use Rattle.reader.specs.File.{patternsOf, sampleAt}
-use Rattle.reader.specs.Judge.{judged, tagged, badLength, badEntry, badVolume, badLoop, badNumber, badPeriod, badAt}
+use Rattle.reader.specs.File.{Module, moduleOf, channelCount, patternsOf, samplePlace}
+use Rattle.reader.specs.Judge.{cellLines, restLines, verdict, tagged, badLength, badEntry, badVolume, badLoop, badNumberAt, badPeriodAt, badAt}
 use Rattle.reader.specs.Cells.{cellFrom, cellAt}
 use Rattle.reader.specs.Samples.{extentOf}
-use Rattle.reader.specs.Answers.{refused, accepted}
 use Rattle.effects.specs.declared.Channel.{Channel}
+use Rattle.effects.specs.Notes.{isNote, isTarget}
 use Rattle.effects.specs.Slides.{lowered, towards}
-use Rattle.effects.specs.Sounded.{periods, above, semitones, arpeggio, transposed, soundedPeriod}
-use Rattle.effects.specs.Work.{givenPeriod, rowPeriod, rowChannel, tickVolume, tickPeriod, tickChannel, channelAt}
-use Rattle.effects.specs.Commands.{withCommand, voiced}
-use Rattle.effects.specs.Legal.{legalChannel}
-use Rattle.sequencer.specs.Row.{rowSpeed, rowDelay, rowLoop, rowMove, rowFlow, flowAt, flowOf}
-use Rattle.sequencer.specs.Songs.{silence, freshSong, nextOf, songBy, songWork, voicedOn, allVoiced, nextTick, advancedTo, advanced, tickWith, tickOf}
-use Rattle.sequencer.specs.Legal.{legalPlace, legalRepeat, legalTime, legalAt, legalSong}
-use Rattle.sequencer.specs.Runs.{songAfter, freshSounding}
+use Rattle.effects.specs.Sounded.{periods, above, semitones, arpeggio, transposed, soundedPeriod, soundedVolume}
+use Rattle.effects.specs.Work.{givenPeriod, rowPeriod, rowChannel, tickVolume, tickPeriod, tickChannel, worked}
+use Rattle.effects.specs.Commands.{voicedBy, voiced}
+use Rattle.effects.specs.Legal.{freshChannel, isFresh, legalChannel}
+use Rattle.sequencer.specs.Row.{rowSpeed, rowDelay, rowLoop, rowMove, rowTime, rowFlow, flowFrom, flowThrough}
+use Rattle.sequencer.specs.Songs.{freshSong, freshSounding, nextOf, courseBy, songBy, songWork, voicedOn, allVoiced, nextTick, timeTo, courseTo, deskAfter, advanced, tickWith, tickOf}
+use Rattle.sequencer.specs.Legal.{legalPlace, legalLoop, legalCourse, legalTime, legalOrFresh, legalAt, legalSong}
+use Rattle.sequencer.specs.Runs.{songAfter}
 use Rattle.voice.specs.declared.Voice.{Voice}
-use Rattle.voice.specs.Voice.{fresh, samplesOf, arriveAt, silentOf, signedOf, readAt, givesOf, growthOf, carried, stepOf, toldOf}
-use Rattle.voice.specs.Frames.{stepsOf, sideOf, sumOf, framesFrom, mixed, framesAt, frames}
-use Rattle.voice.specs.Legal.{legalVoice, legalPlace as legalVoicePlace}
+use Rattle.voice.specs.Voice.{freshVoice, samplesOf, arriveAt, silentOf, signedOf, readAt, givesOf, growthOf, carried, stepOf, toldOf}
+use Rattle.voice.specs.Frames.{stepsOf, sideOf, sumOf, scaleOf, framesFrom, mixed}
+use Rattle.voice.specs.Legal.{legalIndex, legalVoice, isFreshVoice, legalUsedVoice, legalVoices}
+use Rattle.machine.specs.Machine.{framesAt, frames}
 use Rattle.player.specs.declared.State.{State}
 use Rattle.player.specs.declared.Reply.{Reply}
-use Rattle.player.specs.State.{freshState, legalVoiceAt, legalState}
-use Rattle.player.specs.Play.{reply}
+use Rattle.player.specs.State.{freshState, legalState, reply}
 use Rattle.player.specs.Touch.{ageOf, touchedAt, withSong, touchLines, touchOf}
-use Rattle.player.specs.Theorems.{touch-judged}
+use Rattle.player.specs.Keeps.{touch-judged}
 
 -- ---- a small module
 -- of sample 1's header, length to repeat length: five words, volume 64, repeat start 2 and repeat length 3 in words
@@ -63,8 +61,12 @@ file =
     ++ (replicate 1016 0
     ++ bytes)))))))
 
-file-accepted : judged file .number ≡ 0
-unfolding header row bytes file judged refusing some total largest patternsOf sampleAt tagged badLength badEntry badVolume badLoop badNumber badPeriod badAt
+-- read as a module
+abbrev pub module1 : Module
+module1 = moduleOf file
+
+file-accepted : verdict module1 .number ≡ 0
+unfolding header row bytes file verdict restLines cellLines refusing some total largest patternsOf samplePlace tagged badLength badEntry badVolume badLoop badNumberAt badPeriodAt badAt
 file-accepted = refl
 
 -- ---- what the cases are about
@@ -80,31 +82,22 @@ channel volume = record { latched = 0; volume = volume; period = 428; target = 0
 abbrev pub voice : ℕ → ℕ → Voice
 voice index fraction = record { sample = 1; period = 428; volume = 64; index = index; fraction = fraction; stopped = false }
 
-abbrev pub goesOn : Command
-goesOn = record { sample = 1; volume = 64; period = 428; start = false; offset = 0 }
+abbrev pub goingOn : Command
+goingOn = record { sample = 1; volume = 64; period = 428; start = false; offset = 0 }
 
 -- left in a tick's first frame, with a voice at this index on channels 1 and 4
 unfoldable pub left : ℕ → ℤ
 left index =
-    getD (frames (samplesOf file) (voice index 0 ∷ fresh ∷ fresh ∷ voice index 0 ∷ []) (record { tempo = 125; commands = goesOn ∷ nothing ∷ nothing ∷ goesOn ∷ [] })) 0 (pos 0)
+    getD
+    (frames (channelCount module1) (samplesOf module1) (record { voices = voice index 0 ∷ freshVoice ∷ freshVoice ∷ voice index 0 ∷ [] })
+    (record { tempo = 125; commands = goingOn ∷ nothing ∷ nothing ∷ goingOn ∷ [] }))
+    0 (pos 0)
 
 -- the fresh state with clock 3
 unfoldable pub clock3 : State
 clock3 =
     record {
-      song =
-          record {
-            at = freshSong .at;
-            next = freshSong .next;
-            repeat = freshSong .repeat;
-            tick = freshSong .tick;
-            delay = freshSong .delay;
-            speed = freshSong .speed;
-            tempo = freshSong .tempo;
-            clock = 3;
-            page = freshSong .page;
-            channels = freshSong .channels;
-          };
+      song = record { course = freshSong .course; time = freshSong .time; desk = record { clock = 3; page = 0 }; channels = freshSong .channels };
       voices = freshState .voices;
     }
 
@@ -126,32 +119,32 @@ pub record Cases : Type 0 where
   pub p7 : left 2 ≡ negℤ (pos 32768)
   pub p8 : left 3 ≡ pos 32512
   -- period 428, 102, speed 3: 424 at row's end, where the next row is taken
-  pub p9 : (getD (songAfter file 3 freshSong freshSounding .channels) 0 silence .period ≡ 424) × (songAfter file 3 freshSong freshSounding .at .row ≡ 1)
+  pub p9 : (getD (songAfter module1 3 freshSong freshSounding .channels) 0 freshChannel .period ≡ 424) × (songAfter module1 3 freshSong freshSounding .course .at .row ≡ 1)
   -- 428 towards 404 by 10: 418, 408, 404
   pub p10 : (towards 428 404 10 ≡ 418) × (towards 418 404 10 ≡ 408) × (towards 408 404 10 ≡ 404)
   -- arpeggio 047 on 428: 339, 285
   pub p11 : (soundedPeriod (cell 0x00 0x47) 1 (channel 64) ≡ 339) × (soundedPeriod (cell 0x00 0x47) 2 (channel 64) ≡ 285)
   -- A35 raises by 3
-  pub p12 : channelAt file (cell 0x0A 0x35) 1 1 (channel 20) .volume ≡ 23
+  pub p12 : worked file (cell 0x0A 0x35) 1 1 (channel 20) .volume ≡ 23
   -- clock 3, made 4,294,967,290: age 9, accepted; age 25 too, 26 not
   pub p13 : (ageOf 3 4294967290 ≡ 9) × (touchMade 4294967290 ≡ 0) × (ageOf 3 4294967274 ≡ 25) × (touchMade 4294967274 ≡ 0) × (ageOf 3 4294967273 ≡ 26) × (touchMade 4294967273 ≡ 17)
   -- start 2, repeat 3 words: index 10 becomes 4
-  pub p14 : stepOf (samplesOf file 1) (voice 9 65535) .index ≡ 4
+  pub p14 : stepOf (samplesOf module1 1) (voice 9 65535) .index ≡ 4
 
 -- ---- the claim
-clock3-legal : legalState file clock3 ≡ true
-unfolding header row bytes file clock3 every each freshSong legalPlace legalRepeat legalTime legalAt legalSong legalChannel legalVoice legalVoicePlace freshState legalVoiceAt legalState
+clock3-legal : legalState module1 clock3 ≡ true
+unfolding header row bytes file clock3 every each all allFrom freshSong legalPlace legalLoop legalCourse legalTime legalOrFresh legalAt legalSong legalChannel isFresh legalIndex legalVoice isFreshVoice legalUsedVoice legalVoices freshState legalState
 clock3-legal = refl
 
-touch-number : (made : ℕ) → touchMade made ≡ refusing (λ number place. reply (refused number place) clock3) (reply (accepted 0) (withSong clock3 (touchedAt (clock3 .song) 0))) (touchLines file (clock3 .song) 0 made 0) .answer .number
+touch-number : (made : ℕ) → touchMade made ≡ refusing (λ number place. reply (refused number place) clock3) (reply (accepted 0) (withSong clock3 (touchedAt (clock3 .song) 0))) (touchLines module1 (clock3 .song .desk) 0 made 0) .answer .number
 touch-number made = ap (λ (r : Reply). r .answer .number) (touch-judged file file-accepted clock3 clock3-legal 0 made 0)
 
 pub cases : Cases
-unfolding header row bytes file left clock3 refusing each
-    total largest patternsOf sampleAt cellFrom cellAt extentOf
-    lowered towards periods above semitones arpeggio transposed soundedPeriod givenPeriod rowPeriod rowChannel tickVolume tickPeriod tickChannel channelAt withCommand voiced
-    rowSpeed rowDelay rowLoop rowMove rowFlow flowAt flowOf freshSong nextOf songBy songWork voicedOn allVoiced nextTick advancedTo advanced tickWith tickOf songAfter
-    arriveAt silentOf signedOf readAt givesOf growthOf carried stepOf toldOf stepsOf sideOf sumOf framesFrom mixed framesAt frames ageOf
+unfolding header row bytes file left clock3 refusing each partly
+    total largest patternsOf samplePlace cellFrom cellAt extentOf
+    isNote isTarget lowered towards periods above semitones arpeggio transposed soundedPeriod soundedVolume givenPeriod rowPeriod rowChannel tickVolume tickPeriod tickChannel worked voicedBy voiced
+    rowSpeed rowDelay rowLoop rowMove rowTime rowFlow flowFrom flowThrough freshSong nextOf courseBy songBy songWork voicedOn allVoiced nextTick timeTo courseTo deskAfter advanced tickWith tickOf songAfter
+    arriveAt silentOf signedOf readAt givesOf growthOf carried stepOf toldOf stepsOf sideOf sumOf scaleOf framesFrom mixed framesAt frames ageOf
 cases =
     record {
       p1 = refl;

@@ -1,52 +1,102 @@
--- The 56 cells of a state at the C boundary: 12 of the song, then 11 of each channel, its own 5 and its voice's 6.
+-- A state as cells, plain numbers at the C boundary: a song's, then each channel's, its own and its voice's.
 -- Assumes nothing.
-use Prim.Native.Nat.{ℕ, _+_}
-use mathlib.Core.Bool.{Bool, true, false, cond}
+use Prim.Native.Nat.{ℕ, zero, suc, _+_, _*_}
+use mathlib.Core.Bool.{cond}
 use mathlib.Core.List.{List, [], _∷_, _++_}
 use lib.ListN.{getD}
 use lib.Dec.{eqb, ltb}
+use Rattle.laws.specs.Ranges.{each}
+use Rattle.common.specs.Bytes.{bit}
+use Rattle.common.specs.Limits.{width, sampleNumbers}
 use Rattle.effects.specs.declared.Channel.{Channel}
+use Rattle.effects.specs.Legal.{freshChannel}
 use Rattle.sequencer.specs.declared.Song.{Song}
-use Rattle.sequencer.specs.Songs.{silence}
 use Rattle.voice.specs.declared.Voice.{Voice}
 use Rattle.voice.specs.Frames.{blank}
 use Rattle.player.specs.declared.State.{State}
 
--- ---- from a state
--- a flag's cell
-abbrev pub bit : Bool → ℕ
-bit true = 1
-bit false = 0
+-- ---- how many
+-- a song's cells
+abbrev pub songCellCount : ℕ
+songCellCount = 12
 
+-- a channel's own cells
+abbrev pub ownCellCount : ℕ
+ownCellCount = 5
+
+-- its voice's
+abbrev pub voiceCellCount : ℕ
+voiceCellCount = 6
+
+-- and both
+abbrev pub channelCellCount : ℕ
+channelCellCount = ownCellCount + voiceCellCount
+
+-- a state's
+abbrev pub cellCount : ℕ
+cellCount = songCellCount + channelCellCount * width
+
+-- where a channel's cells begin
+abbrev pub channelPlace : ℕ → ℕ
+channelPlace i = songCellCount + channelCellCount * i
+
+-- ---- from a state
 -- position, row, tick, delay, next position, next row, loop row, loop count, speed, tempo, clock, page
 abbrev pub songCells : Song → List ℕ
 songCells s =
-    s .at .position ∷ s .at .row ∷ s .tick ∷ s .delay ∷ s .next .position ∷ s .next .row ∷ s .repeat .row ∷ s .repeat .count ∷ s .speed ∷ s .tempo ∷ s .clock ∷ s .page ∷ []
+    s .course .at .position
+    ∷ s .course .at .row
+    ∷ s .time .tick
+    ∷ s .time .delay
+    ∷ s .course .next .position
+    ∷ s .course .next .row
+    ∷ s .course .looping .row
+    ∷ s .course .looping .count
+    ∷ s .time .speed
+    ∷ s .time .tempo
+    ∷ s .desk .clock
+    ∷ s .desk .page
+    ∷ []
 
--- latched sample, volume, period, target, memory; and of the voice sample, period, volume, index, fraction, stopped
+-- latched sample, volume, period, target, memory
+abbrev pub ownCells : Channel → List ℕ
+ownCells c = c .latched ∷ c .volume ∷ c .period ∷ c .target ∷ c .memory ∷ []
+
+-- sample, period, volume, index, fraction, stopped
+abbrev pub voiceCells : Voice → List ℕ
+voiceCells v = v .sample ∷ v .period ∷ v .volume ∷ v .index ∷ v .fraction ∷ bit (v .stopped) ∷ []
+
 abbrev pub channelCells : Channel → Voice → List ℕ
-channelCells c v =
-    c .latched ∷ c .volume ∷ c .period ∷ c .target ∷ c .memory ∷ v .sample ∷ v .period ∷ v .volume ∷ v .index ∷ v .fraction ∷ bit (v .stopped) ∷ []
+channelCells c v = ownCells c ++ voiceCells v
 
-abbrev pub cellsAt : State → ℕ → List ℕ
-cellsAt s i = channelCells (getD (s .song .channels) i silence) (getD (s .voices) i blank)
+-- channel i's
+abbrev pub cellsAt : List Channel → List Voice → ℕ → List ℕ
+cellsAt cs vs i = channelCells (getD cs i freshChannel) (getD vs i blank)
 
-unfoldable pub cellsOf : State → List ℕ
-cellsOf s = songCells (s .song) ++ (cellsAt s 0 ++ (cellsAt s 1 ++ (cellsAt s 2 ++ cellsAt s 3)))
+-- f 0, .., f (n - 1), one behind the other
+unfoldable pub joined : {A : Type 0} → (ℕ → List A) → ℕ → List A
+joined f zero = []
+joined f (suc n) = joined f n ++ f n
+
+-- the song's, then each channel's
+unfoldable pub stateCells : State → List ℕ
+stateCells s = songCells (s .song) ++ joined (cellsAt (s .song .channels) (s .voices)) width
 
 -- ---- from cells
+-- a channel's own numbers, from a place on
 abbrev pub channelOf : List ℕ → ℕ → Channel
 channelOf l at =
     record { latched = getD l at 0; volume = getD l (at + 1) 0; period = getD l (at + 2) 0; target = getD l (at + 3) 0; memory = getD l (at + 4) 0 }
 
--- a flag above 1 is no flag: the voice gets a sample number that no legal state has
-abbrev pub noSample : ℕ
-noSample = 32
+-- a voice's sample; a flag above 1 is no flag, and gives a sample number that no legal state has
+unfoldable pub sampleBy : ℕ → ℕ → ℕ
+sampleBy flag sample = cond (ltb 1 flag) sampleNumbers sample
 
+-- a voice, from a place on
 abbrev pub voiceOf : List ℕ → ℕ → Voice
 voiceOf l at =
     record {
-      sample = cond (ltb 1 (getD l (at + 5) 0)) noSample (getD l at 0);
+      sample = sampleBy (getD l (at + 5) 0) (getD l at 0);
       period = getD l (at + 1) 0;
       volume = getD l (at + 2) 0;
       index = getD l (at + 3) 0;
@@ -54,20 +104,25 @@ voiceOf l at =
       stopped = eqb (getD l (at + 5) 0) 1;
     }
 
-unfoldable pub songOf : List ℕ → Song
-songOf l =
+-- a song with these channels, from the first cells
+abbrev pub songOf : List ℕ → List Channel → Song
+songOf l cs =
     record {
-      at = record { position = getD l 0 0; row = getD l 1 0 };
-      next = record { position = getD l 4 0; row = getD l 5 0 };
-      repeat = record { row = getD l 6 0; count = getD l 7 0 };
-      tick = getD l 2 0;
-      delay = getD l 3 0;
-      speed = getD l 8 0;
-      tempo = getD l 9 0;
-      clock = getD l 10 0;
-      page = getD l 11 0;
-      channels = channelOf l 12 ∷ channelOf l 23 ∷ channelOf l 34 ∷ channelOf l 45 ∷ [];
+      course =
+          record {
+            at = record { position = getD l 0 0; row = getD l 1 0 };
+            next = record { position = getD l 4 0; row = getD l 5 0 };
+            looping = record { row = getD l 6 0; count = getD l 7 0 };
+          };
+      time = record { tick = getD l 2 0; delay = getD l 3 0; speed = getD l 8 0; tempo = getD l 9 0 };
+      desk = record { clock = getD l 10 0; page = getD l 11 0 };
+      channels = cs;
     }
 
+-- the state that cells say
 unfoldable pub stateOf : List ℕ → State
-stateOf l = record { song = songOf l; voices = voiceOf l 17 ∷ voiceOf l 28 ∷ voiceOf l 39 ∷ voiceOf l 50 ∷ [] }
+stateOf l =
+    record {
+      song = songOf l (each (λ i. channelOf l (channelPlace i)) width);
+      voices = each (λ i. voiceOf l (channelPlace i + ownCellCount)) width;
+    }

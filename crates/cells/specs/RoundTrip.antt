@@ -1,82 +1,114 @@
--- Cells and states say the same: every state is the state of its cells, and 56 cells whose flags are 0 or 1 are the cells of their state.
+-- Cells and states say the same: every state is the state of its cells, and cells whose flags are 0 or 1 are the cells of their state.
 -- Assumes nothing.
-use mathlib.Core.Path.{_≡_, refl, sym, ap}
-use mathlib.Core.Bool.{Bool, true, false, cond}
-use mathlib.Core.List.{List, [], _∷_}
-use Prim.Native.Nat.{ℕ, zero, suc, _+_, _≤_, _<_}
+use Prim.Native.Nat.{ℕ, zero, suc, _+_, _*_, _≤_, _<_}
+use mathlib.Core.Path.{_≡_, refl, sym, ap, ap₂, _∙_}
+use mathlib.Core.List.{List, _++_}
+use native.Mathlib.Nat.{add-zero}
 use native.Mathlib.Omega.{arith}
-use lib.ListN.{length, getD, drop}
-use lib.Seq.{drop-cons, drop-length}
-use lib.Dec.{eqb, ltb}
+use lib.ListN.{length, getD, take, drop, take-append-drop, length-drop}
+use lib.Seq.{drop-drop, getD-drop, getD-take, take-add, take-all, length-take-le}
+use lib.Dec.{eqb}
 use borrow.Author.Tests.{le-ltb}
+use Rattle.laws.specs.Each.{each-by, getD-each}
+use Rattle.laws.specs.Positions.{at-offset, at-position, drop-past}
+use Rattle.common.specs.Bytes.{bit}
+use Rattle.common.specs.Limits.{width}
 use Rattle.effects.specs.declared.Channel.{Channel}
-use Rattle.sequencer.specs.declared.Place.{Place}
-use Rattle.sequencer.specs.declared.Repeat.{Repeat}
+use Rattle.effects.specs.Legal.{freshChannel}
 use Rattle.voice.specs.declared.Voice.{Voice}
+use Rattle.voice.specs.Frames.{blank}
 use Rattle.player.specs.declared.State.{State}
-use Rattle.cells.specs.Cells.{bit, noSample, songOf, stateOf, cellsOf}
+use Rattle.cells.specs.Cells.{songCellCount, ownCellCount, voiceCellCount, channelCellCount, cellCount, channelPlace, songCells, ownCells, voiceCells, cellsAt, joined, stateCells, channelOf, sampleBy, voiceOf, songOf, stateOf}
+use Rattle.cells.specs.Joined.{partAt, joined-parts, joined-at}
+use Rattle.laws.specs.Ranges.{each}
+use Rattle.common.specs.ByteLaws.{bit-back, bit-most}
 
-flag-back : (b : Bool) → eqb (bit b) 1 ≡ b
-flag-back true = refl
-flag-back false = refl
+-- ---- a channel's cells, read
+channel-back : (l : List ℕ) (at : ℕ) (c : Channel) (rest : List ℕ) → drop at l ≡ ownCells c ++ rest → channelOf l at ≡ c
+channel-back l at c rest e = simp (at-position l at _ e, at-offset l at _ e)
 
-sample-back : (b : Bool) (k : ℕ) → cond (ltb 1 (bit b)) noSample k ≡ k
-sample-back true k = refl
-sample-back false k = refl
+voice-back : (l : List ℕ) (at : ℕ) (v : Voice) (rest : List ℕ) → drop at l ≡ voiceCells v ++ rest → voiceOf l at ≡ v
+unfolding sampleBy
+voice-back l at v rest e = simp (at-position l at _ e, at-offset l at _ e, bit-back, le-ltb 1 (bit (v .stopped)) (bit-most (v .stopped)))
 
--- a state of four channels, whatever its numbers are
-pub state-cells : (at next : Place) (r : Repeat) (u d sp te k pg : ℕ) (a b c e : Channel) (v w x y : Voice) →
-    let s : State =
-    record {
-      song =
-          record {
-            at = at;
-            next = next;
-            repeat = r;
-            tick = u;
-            delay = d;
-            speed = sp;
-            tempo = te;
-            clock = k;
-            page = pg;
-            channels = a ∷ b ∷ c ∷ e ∷ [];
-          };
-      voices = v ∷ w ∷ x ∷ y ∷ [];
-    } in
-    stateOf (cellsOf s) ≡ s
-unfolding stateOf songOf cellsOf
-state-cells at next r u d sp te k pg a b c e v w x y = simp (flag-back, sample-back)
+-- ---- a state's cells, read
+module _ (s : State) where
+  abbrev l : List ℕ
+  l = stateCells s
 
--- ---- from cells
--- n elements of l, from the k-th on
-elements : ℕ → List ℕ → ℕ → List ℕ
-elements zero l k = []
-elements (suc n) l k = getD l k 0 ∷ elements n l (suc k)
+  abbrev cellsOn : ℕ → List ℕ
+  cellsOn = cellsAt (s .song .channels) (s .voices)
 
-elements-drop : (n : ℕ) (l : List ℕ) (k : ℕ) → length l ≡ k + n → elements n l k ≡ drop k l
-unfolding elements
-elements-drop zero l k h = let e : k ≡ length l = omega arith in rw e (sym (drop-length l))
-elements-drop (suc n) l k h =
-    let below : k < length l = omega arith in
-    let next : length l ≡ suc k + n = omega arith in
-    rw (drop-cons l k 0 below) (ap (λ (m : List ℕ). getD l k 0 ∷ m) (elements-drop n l (suc k) next))
+  -- the channels' cells come behind the song's, in parts of one length
+  part-there : (i : ℕ) → i < width → take channelCellCount (drop (channelPlace i) l) ≡ cellsOn i
+  unfolding stateCells
+  part-there i h = rw (← drop-drop (channelCellCount * i) songCellCount l) (joined-at channelCellCount cellsOn (λ j. refl) width i h)
+
+  -- so every channel's stand at its place
+  channel-there : (i : ℕ) → i < width → drop (channelPlace i) l ≡ cellsOn i ++ drop channelCellCount (drop (channelPlace i) l)
+  channel-there i h =
+      sym (take-append-drop channelCellCount (drop (channelPlace i) l)) ∙ ap (λ (xs : List ℕ). xs ++ drop channelCellCount (drop (channelPlace i) l)) (part-there i h)
+
+  channels-back : length (s .song .channels) ≡ width → each (λ i. channelOf l (channelPlace i)) width ≡ s .song .channels
+  channels-back h = sym (each-by _ width freshChannel (s .song .channels) h (λ i k. sym (channel-back l (channelPlace i) _ _ (channel-there i k))))
+
+  voices-back : length (s .voices) ≡ width → each (λ i. voiceOf l (channelPlace i + ownCellCount)) width ≡ s .voices
+  voices-back h =
+      sym
+      (each-by _ width blank (s .voices) h
+      (λ i k. sym (voice-back l (channelPlace i + ownCellCount) _ _ (drop-past l (channelPlace i) (ownCells (getD (s .song .channels) i freshChannel)) _ (channel-there i k)))))
+
+  -- the state of a state's cells is the state
+  pub state-cells : length (s .song .channels) ≡ width → length (s .voices) ≡ width → stateOf (stateCells s) ≡ s
+  unfolding stateOf stateCells
+  state-cells h k = rw (channels-back h, voices-back k)
+
+-- ---- cells, written again
+-- n cells from a place on
+part-is : (l : List ℕ) (at n : ℕ) → at + n ≤ length l → take n (drop at l) ≡ each (λ i. getD l (at + i) 0) n
+part-is l at n h =
+    let room : n ≤ length (drop at l) = omega (arith, length-drop at l) in
+    each-by _ n 0 (take n (drop at l)) (length-take-le n (drop at l) room) (λ i k. getD-take n (drop at l) i 0 k ∙ getD-drop at l i 0)
 
 flag-cell : (x : ℕ) → x ≤ 1 → bit (eqb x 1) ≡ x
 flag-cell zero h = refl
 flag-cell (suc zero) h = refl
 flag-cell (suc (suc n)) h = absurd (omega arith)
 
-pub cells-state : (l : List ℕ) → length l ≡ 56 → getD l 22 0 ≤ 1 → getD l 33 0 ≤ 1 → getD l 44 0 ≤ 1 → getD l 55 0 ≤ 1 → cellsOf (stateOf l) ≡ l
-unfolding stateOf songOf cellsOf elements
-cells-state l n p q r s =
-    simp (
-      flag-cell (getD l 22 0) p,
-      flag-cell (getD l 33 0) q,
-      flag-cell (getD l 44 0) r,
-      flag-cell (getD l 55 0) s,
-      le-ltb 1 (getD l 22 0) p,
-      le-ltb 1 (getD l 33 0) q,
-      le-ltb 1 (getD l 44 0) r,
-      le-ltb 1 (getD l 55 0) s,
-    )
-    (elements-drop 56 l 0 n)
+song-again : (l : List ℕ) (cs : List Channel) → songCellCount ≤ length l → songCells (songOf l cs) ≡ take songCellCount l
+unfolding each
+song-again l cs h = rw (part-is l 0 songCellCount h)
+
+channel-again : (l : List ℕ) (at : ℕ) → at + ownCellCount ≤ length l → ownCells (channelOf l at) ≡ take ownCellCount (drop at l)
+unfolding each
+channel-again l at h = rw (part-is l at ownCellCount h, add-zero)
+
+voice-again : (l : List ℕ) (at : ℕ) → at + voiceCellCount ≤ length l → getD l (at + 5) 0 ≤ 1 → voiceCells (voiceOf l at) ≡ take voiceCellCount (drop at l)
+unfolding each sampleBy
+voice-again l at h f = rw (part-is l at voiceCellCount h, add-zero, flag-cell (getD l (at + 5) 0) f, le-ltb 1 (getD l (at + 5) 0) f)
+
+-- where channel i's flag stands
+abbrev pub flagPlace : ℕ → ℕ
+flagPlace i = channelPlace i + ownCellCount + 5
+
+module _ (l : List ℕ) (long : length l ≡ cellCount) (flags : (i : ℕ) → i < width → getD l (flagPlace i) 0 ≤ 1) where
+  channel-cells : (i : ℕ) → i < width → cellsAt (stateOf l .song .channels) (stateOf l .voices) i ≡ partAt channelCellCount (drop songCellCount l) i
+  unfolding stateOf
+  channel-cells i h =
+      rw (
+        getD-each (λ j. channelOf l (channelPlace j)) width i freshChannel h,
+        getD-each (λ j. voiceOf l (channelPlace j + ownCellCount)) width i blank h,
+        drop-drop (channelCellCount * i) songCellCount l,
+        take-add ownCellCount voiceCellCount (drop (channelPlace i) l),
+        drop-drop ownCellCount (channelPlace i) l,
+      )
+      (ap₂ _++_ (channel-again l (channelPlace i) (omega arith)) (voice-again l (channelPlace i + ownCellCount) (omega arith) (flags i h)))
+
+  -- they are the cells of their state
+  pub cells-state : stateCells (stateOf l) ≡ l
+  unfolding stateCells stateOf
+  cells-state =
+      ap₂ _++_ (song-again l (stateOf l .song .channels) (omega arith))
+      (joined-parts channelCellCount (drop songCellCount l) (cellsAt (stateOf l .song .channels) (stateOf l .voices)) width channel-cells
+      ∙ take-all (channelCellCount * width) (drop songCellCount l) (omega (arith, length-drop songCellCount l)))
+      ∙ take-append-drop songCellCount l

@@ -1,170 +1,207 @@
-// The 56 cells of a state at the C boundary: any numbers become a state, and every state cells.
+// A state as cells, plain numbers at the C boundary: any numbers become a state, and every state cells.
 ghost use mathlib.Core.Path.{_≡_};
-ghost use Prim.Native.Nat.{_≤_};
-ghost use mathlib.Core.Bool.{cond};
-ghost use lib.Dec.{ltb};
-ghost use Rattle.cells.specs.Cells.{cellsOf, channelOf, voiceOf, songOf, stateOf};
+ghost use Prim.Native.Nat.{_+_, _≤_, _<_};
+ghost use lib.ListN.{length};
+ghost use lib.Seq.{sets};
+ghost use Rattle.laws.specs.Ranges.{each};
+ghost use Rattle.common.specs.Limits.{width};
+ghost use Rattle.cells.specs.Cells.{ownCellCount, voiceCellCount, channelCellCount, cellCount, channelPlace, songCells, channelCells, stateCells, channelOf, sampleBy, voiceOf, songOf, stateOf};
+use common::limits::SAMPLE_NUMBERS;
+use common::limits::WIDTH;
 use effects::Channel;
 use player::State;
+use sequencer::Course;
+use sequencer::Desk;
+use sequencer::Loop;
 use sequencer::Place;
-use sequencer::Repeat;
 use sequencer::Song;
+use sequencer::Time;
 use voice::Voice;
 
-// A sample number that no legal state has.
-const NO_SAMPLE: u32 = 32;
+// A song's cells; a channel's own, its voice's, and both.
+const SONG_CELLS: usize = 12;
 
-// The channel whose cells begin at `at`.
-fn channel_of(c: &[u32; 56], at: usize) -> Channel
-    requires { ⌜ at ≤ 45 ⌝ }
-    ensures { λ r. ⌜ r ≡ channelOf (now (c .entry)) at ⌝ }
+const OWN_CELLS: usize = 5;
+
+const VOICE_CELLS: usize = 6;
+
+const CHANNEL_CELLS: usize = OWN_CELLS + VOICE_CELLS;
+
+// A state's cells.
+pub const CELLS: usize = SONG_CELLS + CHANNEL_CELLS * WIDTH;
+
+// A sample number that no legal state has.
+const NO_SAMPLE: u32 = SAMPLE_NUMBERS as u32;
+
+// Writes a run of cells from a place on.
+fn put(run: &[u32], at: usize, cells: &mut [u32; CELLS])
+    requires { ⌜ at + length (now run) ≤ cellCount ⌝ }
+    ensures { λ _. ⌜ now (cells .exit) ≡ sets (now (cells .entry)) at (now (run .entry)) ⌝ }
+{
+    let mut i = 0;
+    while i < run.len() {
+        cells[at + i] = run[i];
+        i += 1;
+    }
+}
+
+fn put_song(song: Song, cells: &mut [u32; CELLS])
+    ensures { λ _. ⌜ now (cells .exit) ≡ sets (now (cells .entry)) 0 (songCells song) ⌝ }
+{
+    let run = [
+        song.course.at.position,
+        song.course.at.row,
+        song.time.tick,
+        song.time.delay,
+        song.course.next.position,
+        song.course.next.row,
+        song.course.looping.row,
+        song.course.looping.count,
+        song.time.speed,
+        song.time.tempo,
+        song.desk.clock,
+        song.desk.page,
+    ];
+    put(&run, 0, cells);
+}
+
+fn put_channel(channel: Channel, voice: Voice, at: usize, cells: &mut [u32; CELLS])
+    requires { ⌜ at + channelCellCount ≤ cellCount ⌝ }
+    ensures { λ _. ⌜ now (cells .exit) ≡ sets (now (cells .entry)) at (channelCells channel voice) ⌝ }
+{
+    let run = [
+        channel.latched,
+        channel.volume,
+        channel.period,
+        channel.target,
+        channel.memory,
+        voice.sample,
+        voice.period,
+        voice.volume,
+        voice.index,
+        voice.fraction,
+        voice.stopped as u32,
+    ];
+    put(&run, at, cells);
+}
+
+// The cells of a state.
+pub fn cells_of(state: State) -> [u32; CELLS]
+    ensures { λ r. ⌜ r ≡ stateCells state ⌝ }
+{
+    let song = state.song;
+    let channels = song.channels;
+    let voices = state.voices;
+    let mut cells = [0; CELLS];
+    put_song(song, &mut cells);
+    for i in 0..WIDTH {
+        put_channel(
+            channels[i],
+            voices[i],
+            SONG_CELLS + CHANNEL_CELLS * i,
+            &mut cells,
+        );
+    }
+    cells
+}
+
+// The channel whose own cells begin at a place.
+fn channel_of(cells: &[u32; CELLS], at: usize) -> Channel
+    requires { ⌜ at + ownCellCount ≤ cellCount ⌝ }
+    ensures { λ r. ⌜ r ≡ channelOf (now (cells .entry)) at ⌝ }
 {
     Channel {
-        latched: c[at],
-        volume: c[at + 1],
-        period: c[at + 2],
-        target: c[at + 3],
-        memory: c[at + 4],
+        latched: cells[at],
+        volume: cells[at + 1],
+        period: cells[at + 2],
+        target: cells[at + 3],
+        memory: cells[at + 4],
     }
 }
 
 // The sample cell, unless the flag's cell is no flag.
 fn sample_by(flag: u32, sample: u32) -> u32
-    ensures { λ r. ⌜ r ≡ cond (ltb 1 flag) 32 sample ⌝ }
+    ensures { λ r. ⌜ r ≡ sampleBy flag sample ⌝ }
 {
     if 1 < flag { NO_SAMPLE } else { sample }
 }
 
-// The voice whose cells begin at `at`.
-fn voice_of(c: &[u32; 56], at: usize) -> Voice
-    requires { ⌜ at ≤ 50 ⌝ }
-    ensures { λ r. ⌜ r ≡ voiceOf (now (c .entry)) at ⌝ }
+// The voice whose cells begin at a place.
+fn voice_of(cells: &[u32; CELLS], at: usize) -> Voice
+    requires { ⌜ at + voiceCellCount ≤ cellCount ⌝ }
+    ensures { λ r. ⌜ r ≡ voiceOf (now (cells .entry)) at ⌝ }
 {
     Voice {
-        period: c[at + 1],
-        volume: c[at + 2],
-        index: c[at + 3],
-        fraction: c[at + 4],
-        stopped: c[at + 5] == 1,
-        sample: sample_by(c[at + 5], c[at]),
+        period: cells[at + 1],
+        volume: cells[at + 2],
+        index: cells[at + 3],
+        fraction: cells[at + 4],
+        stopped: cells[at + 5] == 1,
+        sample: sample_by(cells[at + 5], cells[at]),
     }
 }
 
-fn song_of(c: &[u32; 56]) -> Song
-    ensures { λ r. ⌜ r ≡ songOf (now (c .entry)) ⌝ }
+fn channels_of(cells: &[u32; CELLS]) -> [Channel; WIDTH]
+    ensures { λ r. ⌜ r ≡ each (λ i. channelOf (now (cells .entry)) (channelPlace i)) width ⌝ }
+{
+    let channel = effects::fresh_channel();
+    let mut channels = [channel; WIDTH];
+    for i in 0..WIDTH {
+        channels[i] = channel_of(cells, SONG_CELLS + CHANNEL_CELLS * i);
+    }
+    channels
+}
+
+fn voices_of(cells: &[u32; CELLS]) -> [Voice; WIDTH]
+    ensures { λ r. ⌜ r ≡ each (λ i. voiceOf (now (cells .entry)) (channelPlace i + ownCellCount)) width ⌝ }
+{
+    let voice = Voice::fresh();
+    let mut voices = [voice; WIDTH];
+    for i in 0..WIDTH {
+        voices[i] = voice_of(cells, SONG_CELLS + CHANNEL_CELLS * i + OWN_CELLS);
+    }
+    voices
+}
+
+// The song with these channels.
+fn song_of(cells: &[u32; CELLS], channels: [Channel; WIDTH]) -> Song
+    ensures { λ r. ⌜ r ≡ songOf (now (cells .entry)) channels ⌝ }
 {
     Song {
-        at: Place {
-            position: c[0],
-            row: c[1],
+        course: Course {
+            at: Place {
+                position: cells[0],
+                row: cells[1],
+            },
+            next: Place {
+                position: cells[4],
+                row: cells[5],
+            },
+            looping: Loop {
+                row: cells[6],
+                count: cells[7],
+            },
         },
-        next: Place {
-            position: c[4],
-            row: c[5],
+        time: Time {
+            tick: cells[2],
+            delay: cells[3],
+            speed: cells[8],
+            tempo: cells[9],
         },
-        repeat: Repeat {
-            row: c[6],
-            count: c[7],
+        desk: Desk {
+            clock: cells[10],
+            page: cells[11],
         },
-        tick: c[2],
-        delay: c[3],
-        speed: c[8],
-        tempo: c[9],
-        clock: c[10],
-        page: c[11],
-        channels: [
-            channel_of(c, 12),
-            channel_of(c, 23),
-            channel_of(c, 34),
-            channel_of(c, 45),
-        ],
+        channels: channels,
     }
 }
 
-// The state that 56 cells say.
-pub fn state_of(c: &[u32; 56]) -> State
-    ensures { λ r. ⌜ r ≡ stateOf (now (c .entry)) ⌝ }
+// The state that cells say.
+pub fn state_of(cells: &[u32; CELLS]) -> State
+    ensures { λ r. ⌜ r ≡ stateOf (now (cells .entry)) ⌝ }
 {
     State {
-        song: song_of(c),
-        voices: [
-            voice_of(c, 17),
-            voice_of(c, 28),
-            voice_of(c, 39),
-            voice_of(c, 50),
-        ],
+        song: song_of(cells, channels_of(cells)),
+        voices: voices_of(cells),
     }
-}
-
-// The cells of a state.
-pub fn cells_of(s: State) -> [u32; 56]
-    ensures { λ r. ⌜ r ≡ cellsOf s ⌝ }
-{
-    let g = s.song;
-    let c0 = g.channels[0];
-    let c1 = g.channels[1];
-    let c2 = g.channels[2];
-    let c3 = g.channels[3];
-    let v0 = s.voices[0];
-    let v1 = s.voices[1];
-    let v2 = s.voices[2];
-    let v3 = s.voices[3];
-    [
-        g.at.position,
-        g.at.row,
-        g.tick,
-        g.delay,
-        g.next.position,
-        g.next.row,
-        g.repeat.row,
-        g.repeat.count,
-        g.speed,
-        g.tempo,
-        g.clock,
-        g.page,
-        c0.latched,
-        c0.volume,
-        c0.period,
-        c0.target,
-        c0.memory,
-        v0.sample,
-        v0.period,
-        v0.volume,
-        v0.index,
-        v0.fraction,
-        v0.stopped as u32,
-        c1.latched,
-        c1.volume,
-        c1.period,
-        c1.target,
-        c1.memory,
-        v1.sample,
-        v1.period,
-        v1.volume,
-        v1.index,
-        v1.fraction,
-        v1.stopped as u32,
-        c2.latched,
-        c2.volume,
-        c2.period,
-        c2.target,
-        c2.memory,
-        v2.sample,
-        v2.period,
-        v2.volume,
-        v2.index,
-        v2.fraction,
-        v2.stopped as u32,
-        c3.latched,
-        c3.volume,
-        c3.period,
-        c3.target,
-        c3.memory,
-        v3.sample,
-        v3.period,
-        v3.volume,
-        v3.index,
-        v3.fraction,
-        v3.stopped as u32,
-    ]
 }

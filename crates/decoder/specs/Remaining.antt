@@ -1,137 +1,122 @@
--- A stream that is read record by record: what is left of it, by the registers, the place and the number of records left.
+-- A stream that is decoded record by record: what is left of it (`Left`), by the registers, the place and the number of records left.
 -- Assumes nothing.
 use Prim.Native.Nat.{ℕ, zero, suc, _+_, _-_, _≤_, _<_}
 use mathlib.Core.Path.{_≡_, refl, sym, ap, _∙_}
-use mathlib.Core.Bool.{Bool, true, false, cond, not, _||_, true≢false, false≢true}
+use mathlib.Core.Bool.{true, false, not, cond, _||_}
 use mathlib.Core.List.{List, [], _∷_}
 use native.Mathlib.Omega.{arith}
-use lib.ListN.{length, getD}
+use lib.ListN.{length}
 use lib.Dec.{ltb, eqb}
-use Rattle.laws.specs.BigEndian.{fourAt}
-use Rattle.laws.specs.Refusals.{refusing}
+use Rattle.laws.specs.Choice.{either}
+use Rattle.common.specs.declared.Answer.{Answer}
+use Rattle.common.specs.Bytes.{byteAt, fourAt}
+use Rattle.common.specs.Answers.{refusing}
 use Rattle.ticks.specs.declared.Command.{Command}
 use Rattle.ticks.specs.declared.Tick.{Tick}
-use Rattle.reader.specs.declared.Verdict.{Verdict}
-use Rattle.records.specs.Legal.{LegalAfter, AllLegalAfter}
+use Rattle.ticks.specs.Legal.{LegalTick, LegalTicks, more}
+use Rattle.records.specs.Format.{versionPlace, countPlace, recordsPlace, knownVersion, atFirst, Read, bad, read, readOn, readRecord, Decoded, refusal, ticks, withTick, decodeRecords, decodeAfter, decode}
+use Rattle.records.specs.Reads.{on-either, on-good, passed, not-ticks, with-ticks, flag-read, flag-bad}
 use Rattle.records.specs.Decoded.{stream-of}
-use Rattle.records.specs.Format.{countPlace, recordsPlace, atFirst, Read, bad, read, recordAt, Decoded, refusal, ticks, withTick, afterRecord, decodeRecords, decodeAfter, decode}
 use Rattle.decoder.specs.declared.Record.{Record}
-use Rattle.decoder.specs.Answers.{asRecord, verdict}
+use Rattle.decoder.specs.Answers.{asRecord, answerOf}
+use Rattle.ticks.specs.Commands.{soundingOf}
 
 -- ---- a record that was read
-pub record-read : (registers : List Command) (at : ℕ) (x : Read Tick) (r : Record) → r ≡ asRecord registers at x → r .ok ≡ true → x ≡ read (r .tick) (r .next)
-unfolding asRecord
-record-read registers at bad r e t = absurd (false≢true (sym (ap (λ (y : Record). y .ok) e) ∙ t))
-record-read registers at (read u n) r e t = rw e
+module _ (registers : List Command) (at : ℕ) (x : Read Tick) (r : Record) (e : r ≡ asRecord registers at x) where
+  pub record-read : r .ok ≡ true → x ≡ read (r .tick) (r .next)
+  unfolding asRecord
+  record-read t =
+      let w = flag-read (λ (y : Record). y .ok) _ _ x r e refl t in
+      w .is ∙ ap (λ (y : Record). read (y .tick) (y .next)) (w .on)
 
-pub record-unread : (registers : List Command) (at : ℕ) (x : Read Tick) (r : Record) → r ≡ asRecord registers at x → r .ok ≡ false → x ≡ bad
-unfolding asRecord
-record-unread registers at bad r e t = refl
-record-unread registers at (read u n) r e t = absurd (true≢false (sym (ap (λ (y : Record). y .ok) e) ∙ t))
+  pub record-unread : r .ok ≡ false → x ≡ bad
+  unfolding asRecord
+  record-unread = flag-bad (λ (y : Record). y .ok) _ _ x r e (λ t n. refl)
 
-pub next-record : (s : List ℕ) (n : ℕ) (registers : List Command) (at : ℕ) → 0 < n
-    → decodeRecords s n registers at ≡ afterRecord at (recordAt registers s at) (λ t p. decodeRecords s (n - 1) (t .commands) p)
+pub next-record : (last c : ℕ) (s : List ℕ) (n at : ℕ) (registers : List Command) → 0 < n
+    → decodeRecords last c s n at registers ≡ readOn (refusal 23 at) (readRecord last c s at registers) (λ t p. withTick t (decodeRecords last c s (n - 1) p (t .commands)))
 unfolding decodeRecords
-next-record s zero registers at h = absurd (omega arith)
-next-record s (suc n) registers at h =
+next-record last c s zero at registers h = absurd (omega arith)
+next-record last c s (suc n) at registers h =
     let e : suc n - 1 ≡ n = omega arith in
     rw e
 
 -- ---- a stream that is not refused
 -- its ticks
-pub record Good (s : List ℕ) : Type 0 where
+pub record Good (last c : ℕ) (s : List ℕ) : Type 0 where
   pub its : List Tick
-  pub is : decode s ≡ ticks its
+  pub is : decode last c s ≡ ticks its
 
-with-number : (t : Tick) (d : Decoded) (k p : ℕ) → ((a b : ℕ) → d ≡ refusal a b → a ≡ 23) → withTick t d ≡ refusal k p → k ≡ 23
+-- a refusal has a number
+abbrev Numbered : Decoded → Type 0
+Numbered (refusal number place) = 0 < number
+Numbered (ticks ts) = Unit
+
+with-numbered : (t : Tick) (d : Decoded) → Numbered d → Numbered (withTick t d)
 unfolding withTick
-with-number t (refusal a b) k p ih e =
-    let q : k ≡ a = cc in
-    q ∙ ih a b refl
-with-number t (ticks ts) k p ih e = let z : _≡_ {A = ℕ} 0 1 = cc in absurd (omega arith)
+with-numbered t (refusal number place) h = h
+with-numbered t (ticks ts) h = tt
 
-after-number : (at : ℕ) (x : Read Tick) (rest : Tick → ℕ → Decoded) (k p : ℕ) → ((t : Tick) (n a b : ℕ) → rest t n ≡ refusal a b → a ≡ 23) → afterRecord at x rest ≡ refusal k p → k ≡ 23
-after-number at bad rest k p ih e = cc
-after-number at (read t n) rest k p ih e = with-number t (rest t n) k p (ih t n) e
-
-end-number : (at : ℕ) (b : Bool) (k p : ℕ) → cond b (ticks []) (refusal 23 at) ≡ refusal k p → k ≡ 23
-end-number at true k p e = let z : _≡_ {A = ℕ} 0 1 = cc in absurd (omega arith)
-end-number at false k p e = cc
-
-records-number : (s : List ℕ) (n : ℕ) (registers : List Command) (at k p : ℕ) → decodeRecords s n registers at ≡ refusal k p → k ≡ 23
+records-numbered : (last c : ℕ) (s : List ℕ) (n at : ℕ) (registers : List Command) → Numbered (decodeRecords last c s n at registers)
 unfolding decodeRecords
-records-number s zero registers at k p e = end-number at (eqb at (length s)) k p e
-records-number s (suc n) registers at k p e =
-    after-number at (recordAt registers s at) (λ t q. decodeRecords s n (t .commands) q) k p (λ t q a b. records-number s n (t .commands) q a b) e
+records-numbered last c s zero at registers = either Numbered (eqb at (length s)) _ _ (λ e. tt) (λ e. omega arith)
+records-numbered last c s (suc n) at registers =
+    on-either Numbered (refusal 23 at) (readRecord last c s at registers) _ (λ e. omega arith) (λ t p e. with-numbered t (decodeRecords last c s n p (t .commands)) (records-numbered last c s n p (t .commands)))
 
--- the numbers of refusals
-decode-number : (s : List ℕ) (k p : ℕ) → decode s ≡ refusal k p → 21 ≤ k
+decode-numbered : (last c : ℕ) (s : List ℕ) → Numbered (decode last c s)
 unfolding decodeAfter refusing
-decode-number s k p e = go (ltb (length s) 9 || not (eqb (length s) (4 + fourAt s 0))) (not (eqb (getD s 4 0) 1)) e
-  where
-    go : (a b : Bool) → cond a (refusal 21 (length s)) (cond b (refusal 22 4) (decodeRecords s (fourAt s 5) atFirst 9)) ≡ refusal k p → 21 ≤ k
-    go true b q =
-        let n : k ≡ 21 = cc in
-        omega arith
-    go false true q =
-        let n : k ≡ 22 = cc in
-        omega arith
-    go false false q = omega (arith, records-number s (fourAt s 5) atFirst 9 k p q)
+decode-numbered last c s =
+    let rest = decodeRecords last c s (fourAt s countPlace) recordsPlace atFirst in
+    let unknown = not (knownVersion (byteAt s versionPlace)) in
+    either Numbered (ltb (length s) recordsPlace || not (eqb (length s) (versionPlace + fourAt s 0))) (refusal 21 (length s)) (cond unknown (refusal 22 versionPlace) rest) (λ e. omega arith)
+    (λ e. either Numbered unknown (refusal 22 versionPlace) rest (λ q. omega arith) (λ q. records-numbered last c s (fourAt s countPlace) recordsPlace atFirst))
 
-pub checked-good : (s : List ℕ) (v : Verdict) → v ≡ verdict (decode s) → v .number ≡ 0 → Good s
-unfolding verdict
-checked-good s v e z = go (decode s) refl e
+pub checked-good : (last c : ℕ) (s : List ℕ) (a : Answer) → a ≡ answerOf (decode last c s) → a .number ≡ 0 → Good last c s
+unfolding answerOf
+checked-good last c s a e z = go (decode last c s) refl (decode-numbered last c s) e
   where
-    go : (d : Decoded) → decode s ≡ d → v ≡ verdict d → Good s
-    go (refusal k p) q h = absurd (omega (arith, decode-number s k p q, ap (λ (u : Verdict). u .number) h))
-    go (ticks ts) q h = record { its = ts; is = q }
+    go : (d : Decoded) → decode last c s ≡ d → Numbered d → a ≡ answerOf d → Good last c s
+    go (refusal k p) q h y = absurd (omega (arith, ap (λ (b : Answer). b .number) y))
+    go (ticks ts) q h y = record { its = ts; is = q }
 
 -- ---- what is left of it
 -- n records from a place on, after the registers: their ticks are ts
-pub record Left (s : List ℕ) (n : ℕ) (registers : List Command) (at : ℕ) (ts : List Tick) : Type 0 where
-  pub reads : decodeRecords s n registers at ≡ ticks ts
-  pub legal : AllLegalAfter registers ts
+pub record Left (last c : ℕ) (s : List ℕ) (n at : ℕ) (registers : List Command) (ts : List Tick) : Type 0 where
+  pub reads : decodeRecords last c s n at registers ≡ ticks ts
+  pub legal : LegalTicks last (soundingOf registers) ts
 
 -- at first all records are left
-pub left-begin : (s : List ℕ) (ts : List Tick) → decode s ≡ ticks ts → Left s (fourAt s countPlace) atFirst recordsPlace ts
-left-begin s ts e =
-    let a = stream-of s ts e in
-    record { reads = a .reads; legal = a .its .legal }
+pub left-begin : (last c : ℕ) (s : List ℕ) (ts : List Tick) → decode last c s ≡ ticks ts → Left last c s (fourAt s countPlace) recordsPlace atFirst ts
+left-begin last c s ts e =
+    let a = stream-of last c s ts e in
+    record { reads = a .reads; legal = a .legal }
 
 -- the record r that was read of ts: it is the first tick, legal after the registers, and n records are left after it
-pub record Next (s : List ℕ) (n : ℕ) (registers : List Command) (ts : List Tick) (r : Record) : Type 0 where
+pub record Next (last c : ℕ) (s : List ℕ) (n : ℕ) (registers : List Command) (ts : List Tick) (r : Record) : Type 0 where
   pub rest : List Tick
   pub is : ts ≡ r .tick ∷ rest
-  pub legal : LegalAfter registers (r .tick)
-  pub left : Left s n (r .tick .commands) (r .next) rest
+  pub legal : LegalTick last (soundingOf registers) (r .tick)
+  pub left : Left last c s n (r .next) (r .tick .commands) rest
 
-pub left-next : (s : List ℕ) (n i : ℕ) (registers : List Command) (at : ℕ) (ts : List Tick) (r : Record) → i < n
-    → r ≡ asRecord registers at (recordAt registers s at) → Left s (n - i) registers at ts → Next s (n - (i + 1)) registers ts r
-unfolding asRecord withTick
-left-next s n i registers at ts r h e w = go (recordAt registers s at) e (sym (next-record s (n - i) registers at (omega arith)) ∙ w .reads)
-  where
-    k : n - i - 1 ≡ n - (i + 1)
-    k = omega arith
+first-legal : (last : ℕ) (soundings : List ℕ) (t : Tick) (ts : List Tick) → LegalTicks last soundings (t ∷ ts) → LegalTick last soundings t × LegalTicks last (soundingOf (t .commands)) ts
+first-legal last soundings t ts (more l ls) = (l, ls)
 
-    inner : (t : Tick) (p : ℕ) (d : Decoded) → r ≡ record { ok = true; tick = t; next = p }
-        → decodeRecords s (n - i - 1) (t .commands) p ≡ d → withTick t d ≡ ticks ts → Next s (n - (i + 1)) registers ts r
-    inner t p (refusal a b) y z c = let q : _≡_ {A = ℕ} 0 1 = cc in absurd (omega arith)
-    inner t p (ticks us) y z c =
-        let q : ts ≡ t ∷ us = cc in
-        let l : AllLegalAfter registers (t ∷ us) = rw q at (w .legal) in
-        record { rest = us; is = rw y q; legal = rw y (l .0); left = rw y (record { reads = rw (← k) z; legal = l .1 }) }
+module _ (last c : ℕ) (s : List ℕ) (n i at : ℕ) (registers : List Command) (ts : List Tick) (w : Left last c s (n - i) at registers ts) where
+  pub left-next : (r : Record) → i < n → r ≡ asRecord registers at (readRecord last c s at registers) → Next last c s (n - (i + 1)) registers ts r
+  unfolding asRecord readOn
+  left-next r h e =
+      let a = on-good (refusal 23 at) (readRecord last c s at registers) (λ t p. withTick t (decodeRecords last c s (n - i - 1) p (t .commands))) (ticks ts) (not-ticks 23 at ts)
+      (sym (next-record last c s (n - i) at registers (omega arith)) ∙ w .reads) in
+      let f = with-ticks (a .got) (decodeRecords last c s (n - i - 1) (a .next) (a .got .commands)) ts (a .on) in
+      let l = first-legal last (soundingOf registers) (a .got) (f .others) (rw (f .all) at (w .legal)) in
+      let y : r ≡ record { ok = true; tick = a .got; next = a .next } = e ∙ ap (asRecord registers at) (a .is) in
+      let k : n - i - 1 ≡ n - (i + 1) = omega arith in
+      record { rest = f .others; is = rw y (f .all); legal = rw y (l .0); left = rw y (record { reads = rw (← k) (f .is); legal = l .1 }) }
 
-    go : (x : Read Tick) → r ≡ asRecord registers at x → afterRecord at x (λ t p. decodeRecords s (n - i - 1) (t .commands) p) ≡ ticks ts → Next s (n - (i + 1)) registers ts r
-    go bad y z = let q : _≡_ {A = ℕ} 0 1 = cc in absurd (omega arith)
-    go (read t p) y z = inner t p (decodeRecords s (n - i - 1) (t .commands) p) y refl z
-
--- none are left, and no ticks
-pub left-end : (s : List ℕ) (n i : ℕ) (registers : List Command) (at : ℕ) (ts : List Tick) → n ≤ i → Left s (n - i) registers at ts → ts ≡ []
-unfolding decodeRecords
-left-end s n i registers at ts h w =
-    let z : n - i ≡ 0 = omega arith in
-    go (eqb at (length s)) (rw z at (w .reads))
-  where
-    go : (b : Bool) → cond b (ticks []) (refusal 23 at) ≡ ticks ts → ts ≡ []
-    go true e = cc
-    go false e = cc
+  -- none are left, and no ticks
+  pub left-end : n ≤ i → ts ≡ []
+  unfolding decodeRecords
+  left-end h =
+      let z : n - i ≡ 0 = omega arith in
+      let q = passed (eqb at (length s)) (ticks []) (refusal 23 at) (ticks ts) (not-ticks 23 at ts) (rw z at (w .reads)) .1 in
+      cc

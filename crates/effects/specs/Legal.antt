@@ -1,44 +1,37 @@
--- Legal channels: as facts, and as a yes/no question, with both ways between them.
+-- Fresh and legal channels: as facts, and as the yes/no questions that code answers. LegalFacts shows that they are the same.
 -- Assumes nothing.
-use Prim.Native.Nat.{_≤_}
-use mathlib.Core.Path.{_≡_}
-use mathlib.Core.Bool.{Bool, true, _&&_}
-use borrow.Author.Tests.{le-leb, leb-true}
-use lib.Dec.{leb}
-use Rattle.laws.specs.Every.{all-five, five}
-use Rattle.ticks.specs.Legal.{lastSample, loudest, lastByte, LegalPeriod, legalPeriod, period-has, period-by}
+use Prim.Native.Nat.{ℕ}
+use mathlib.Core.Bool.{Bool}
+use mathlib.Core.List.{List, [], _∷_}
+use lib.Dec.{leb, eqb}
+use Rattle.laws.specs.Ranges.{all}
+use Rattle.common.specs.Limits.{loudest, lastByte, legalPeriod}
 use Rattle.effects.specs.declared.Channel.{Channel}
 
 -- ---- as facts
--- samples to 31, volumes to 64, periods and target 0 or 113 to 856, memory to 255
-pub record LegalChannel (ch : Channel) : Type 0 where
-  pub latched : ch .latched ≤ lastSample
-  pub volume : ch .volume ≤ loudest
-  pub period : LegalPeriod (ch .period)
-  pub target : LegalPeriod (ch .target)
-  pub memory : ch .memory ≤ lastByte
+-- each channel: latched sample, volume, period, target, slide memory 0
+abbrev pub freshChannel : Channel
+freshChannel = record { latched = 0; volume = 0; period = 0; target = 0; memory = 0 }
 
--- ---- as a question
-unfoldable pub legalChannel : Channel → Bool
-legalChannel ch =
-    leb (ch .latched) lastSample
-    && leb (ch .volume) loudest
-    && legalPeriod (ch .period)
-    && legalPeriod (ch .target)
-    && leb (ch .memory) lastByte
+-- ---- as questions
+-- every number 0
+abbrev pub freshTests : Channel → List Bool
+freshTests ch = eqb (ch .latched) 0 ∷ eqb (ch .volume) 0 ∷ eqb (ch .period) 0 ∷ eqb (ch .target) 0 ∷ eqb (ch .memory) 0 ∷ []
 
-pub channel-has : (ch : Channel) → legalChannel ch ≡ true → LegalChannel ch
-unfolding legalChannel
-channel-has ch e =
-    let h = all-five (leb (ch .latched) lastSample) (leb (ch .volume) loudest) (legalPeriod (ch .period)) (legalPeriod (ch .target)) (leb (ch .memory) lastByte) e in
-    record {
-      latched = leb-true (ch .latched) lastSample (h .0);
-      volume = leb-true (ch .volume) loudest (h .1);
-      period = period-has (ch .period) (h .2);
-      target = period-has (ch .target) (h .3);
-      memory = leb-true (ch .memory) lastByte (h .4);
-    }
+-- whether a channel is as fresh
+unfoldable pub isFresh : Channel → Bool
+isFresh ch = all (freshTests ch)
 
-pub channel-by : (ch : Channel) → LegalChannel ch → legalChannel ch ≡ true
-unfolding legalChannel
-channel-by ch h = five _ _ _ _ _ (le-leb _ _ (h .latched)) (le-leb _ _ (h .volume)) (period-by _ (h .period)) (period-by _ (h .target)) (le-leb _ _ (h .memory))
+-- a test for each fact of a legal channel
+abbrev pub channelTests : ℕ → Channel → List Bool
+channelTests last ch =
+    leb (ch .latched) last
+    ∷ leb (ch .volume) loudest
+    ∷ legalPeriod (ch .period)
+    ∷ legalPeriod (ch .target)
+    ∷ leb (ch .memory) lastByte
+    ∷ []
+
+-- whether a channel is legal
+unfoldable pub legalChannel : ℕ → Channel → Bool
+legalChannel last ch = all (channelTests last ch)

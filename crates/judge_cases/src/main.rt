@@ -2,27 +2,22 @@
 use libc::STDOUT_FILENO;
 
 fn tell(file: &[u8]) {
-    let v = reader::judge(file);
+    let judged = reader::judge(file);
     io::write_all(STDOUT_FILENO, b" ");
-    io::print_decimal(STDOUT_FILENO, v.number as u64);
+    io::print_decimal(STDOUT_FILENO, judged.number as u64);
     io::write_all(STDOUT_FILENO, b" ");
-    io::print_decimal(STDOUT_FILENO, v.place as u64);
+    io::print_decimal(STDOUT_FILENO, judged.place as u64);
     io::write_all(STDOUT_FILENO, b"\n");
 }
 
 fn one(k: usize) {
-    let mut name = io::buffer();
-    let length = os::arg(k, &mut name);
-    let fd = os::open_read(&name[..length]);
+    let fd = case_files::open_named(k);
     if fd < 0 {
-        os::fail(&name[..length]);
         return;
     }
-    let mut buf = io::large_buffer();
-    let n = io::read_full(fd, &mut buf);
-    libc::close(fd);
-    io::write_all(STDOUT_FILENO, &name[..length]);
-    tell(&buf[..n]);
+    let mut bytes = io::large_buffer();
+    let n = case_files::read_opened(fd, &mut bytes);
+    tell(&bytes[..n]);
 }
 
 fn main() {

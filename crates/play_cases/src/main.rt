@@ -3,10 +3,13 @@
 ghost use Prim.Native.Nat.{_<_, _≤_};
 ghost use mathlib.Core.Path.{_≡_};
 ghost use lib.ListN.{length};
+ghost use Rattle.common.specs.Limits.{width};
+use common::limits::WIDTH;
 use libc::STDOUT_FILENO;
 use player::State;
 use sequencer::Song;
 use voice::Voice;
+use voice::mix::FRAME_NUMBERS;
 
 // How many ticks of each file are played.
 const TICKS: u32 = 48;
@@ -16,13 +19,18 @@ const FACTOR: u32 = 31;
 
 const MODULUS: u32 = 65521;
 
-// The cells of the longest tick, at tempo 32.
-const MOST_CELLS: usize = 7500;
+// A tick's frames times its tempo.
+const TICK_FRAMES: u32 = 120000;
 
-fn silence() -> [i16; 7500]
+// The frames and the numbers of the longest tick, at tempo 32.
+const MOST_FRAMES: u32 = 3750;
+
+const MOST_NUMBERS: usize = 7500;
+
+fn room() -> [i16; MOST_NUMBERS]
     ensures { λ r. ⌜ 7500 ≡ length r ⌝ }
 {
-    [0i16; 7500]
+    [0i16; MOST_NUMBERS]
 }
 
 fn tell(n: u32) {
@@ -31,9 +39,9 @@ fn tell(n: u32) {
 }
 
 fn tell_place(song: Song) {
-    io::print_decimal(STDOUT_FILENO, song.at.position as u64);
-    tell(song.at.row);
-    tell(song.tick);
+    io::print_decimal(STDOUT_FILENO, song.course.at.position as u64);
+    tell(song.course.at.row);
+    tell(song.time.tick);
 }
 
 fn tell_voice(v: Voice) {
@@ -45,6 +53,17 @@ fn tell_voice(v: Voice) {
     tell(v.stopped as u32);
 }
 
+// The first n voices.
+fn tell_voices(n: usize, voices: [Voice; WIDTH])
+    requires { ⌜ n ≤ width ⌝ }
+{
+    let mut i = 0;
+    while i < n {
+        tell_voice(voices[i]);
+        i += 1;
+    }
+}
+
 // A number modulo 65,536.
 fn bits(x: i16) -> u32
     ensures { λ r. ⌜ r < 65536 ⌝ }
@@ -53,47 +72,44 @@ fn bits(x: i16) -> u32
     (y as u32 + 32768) % 65536
 }
 
-// Of the first n cells.
-fn checksum(cells: &[i16; 7500], n: usize) -> u32
+// Of the first n numbers.
+fn checksum(numbers: &[i16; MOST_NUMBERS], n: usize) -> u32
     requires { ⌜ n ≤ 7500 ⌝ }
 {
     let mut h = 0;
     let mut i = 0;
     while i < n {
-        h = (h * FACTOR + bits(cells[i])) % MODULUS;
+        h = (h * FACTOR + bits(numbers[i])) % MODULUS;
         i += 1;
     }
     h
 }
 
-// The cells of a tick.
-fn tick_cells(tempo: u32) -> usize
+// How many numbers a tick has.
+fn tick_size(tempo: u32) -> usize
     ensures { λ r. ⌜ r ≤ 7500 ⌝ }
 {
     if tempo == 0 {
         return 0;
     }
-    let n = voice::mix::tick_size(tempo);
-    if n > MOST_CELLS {
+    let frames = TICK_FRAMES / tempo;
+    if frames > MOST_FRAMES {
         return 0;
     }
-    n
+    FRAME_NUMBERS * frames as usize
 }
 
 // Plays a tick, tells of it, and returns the state after it.
 fn play_tick(file: &[u8], state: State) -> State {
-    let mut out = silence();
+    let mut out = room();
     let reply = player::play(file, state, 1, &mut out);
     let after = reply.state;
     let voices = after.voices;
-    let n = tick_cells(after.song.tempo);
+    let layout = reader::offsets::four_channels();
     tell_place(state.song);
-    tell(after.song.tempo);
-    tell_voice(voices[0]);
-    tell_voice(voices[1]);
-    tell_voice(voices[2]);
-    tell_voice(voices[3]);
-    tell(checksum(&out, n));
+    tell(after.song.time.tempo);
+    tell_voices(layout.channels, voices);
+    tell(checksum(&out, tick_size(after.song.time.tempo)));
     io::write_all(STDOUT_FILENO, b"\n");
     after
 }
@@ -108,19 +124,14 @@ fn play_ticks(file: &[u8]) {
 }
 
 fn one(k: usize) {
-    let mut name = io::buffer();
-    let length = os::arg(k, &mut name);
-    let fd = os::open_read(&name[..length]);
+    let fd = case_files::open_named(k);
     if fd < 0 {
-        os::fail(&name[..length]);
         return;
     }
-    let mut buf = io::large_buffer();
-    let n = io::read_full(fd, &mut buf);
-    libc::close(fd);
-    io::write_all(STDOUT_FILENO, &name[..length]);
     io::write_all(STDOUT_FILENO, b"\n");
-    play_ticks(&buf[..n]);
+    let mut bytes = io::large_buffer();
+    let n = case_files::read_opened(fd, &mut bytes);
+    play_ticks(&bytes[..n]);
 }
 
 fn main() {

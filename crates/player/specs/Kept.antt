@@ -1,115 +1,122 @@
--- Legality: as facts, what the test of refusal 14 says; fresh states are legal, and a tick keeps a state legal.
+-- A tick keeps a state legal (`tick-kept`), on any machine that has the voices in it and moves them as the commands say; fresh states are legal.
 -- Assumes nothing.
 use Prim.Native.Nat.{ℕ, _<_}
-use mathlib.Core.Path.{_≡_, refl, sym, _∙_}
-use mathlib.Core.Bool.{true}
+use mathlib.Core.Path.{_≡_, refl, sym, ap, _∙_}
+use mathlib.Core.Bool.{Bool, true, false}
 use mathlib.Core.List.{List}
+use native.Mathlib.Omega.{arith}
+use lib.Dec.{ltb}
 use lib.ListN.{length, getD}
 use lib.Seq.{ext-getD}
-use Rattle.laws.specs.Each.{length-each, getD-each}
-use Rattle.laws.specs.Every.{both, first-of, second-of, every, every-at, every-by}
-use Rattle.ticks.specs.Legal.{LegalTick, samplesOf, length-samples, getD-samples}
-use Rattle.reader.specs.File.{songLength, channels}
-use Rattle.reader.specs.Judge.{judged}
-use Rattle.reader.specs.Accept.{accepted-has, Bytes}
-use Rattle.reader.specs.Samples.{none, extentsOf}
+use borrow.Author.Tests.{ltb-true, ltb-false}
+use Rattle.laws.specs.Each.{length-each, getD-each, same-each}
+use Rattle.laws.specs.Ranges.{each}
+use Rattle.common.specs.Bytes.{Bytes}
+use Rattle.common.specs.Limits.{width}
+use Rattle.ticks.specs.declared.Tick.{Tick}
+use Rattle.ticks.specs.Legal.{LegalTick, getD-sounding}
+use Rattle.ticks.specs.Play.{Mechanism}
+use Rattle.reader.specs.File.{Module, sampleCount, channelCount, songLength}
+use Rattle.reader.specs.Judge.{verdict}
+use Rattle.reader.specs.Accept.{accepted-has}
+use Rattle.reader.specs.Samples.{extentsOf}
 use Rattle.sequencer.specs.declared.Song.{Song}
-use Rattle.sequencer.specs.Songs.{tickOf}
-use Rattle.sequencer.specs.Legal.{LegalSong, legalSong, song-has, song-by}
+use Rattle.sequencer.specs.Songs.{tickOf, freshSounding}
 use Rattle.sequencer.specs.Kept.{fresh-legal}
-use Rattle.sequencer.specs.Runs.{LegalRun, run-tick, run-kept, soundingAfterTick}
-use Rattle.voice.specs.Voice.{samplesOf as moduleSamples}
+use Rattle.sequencer.specs.Runs.{soundingAfterTick}
 use Rattle.voice.specs.declared.Voice.{Voice}
-use Rattle.voice.specs.Voice.{fresh}
-use Rattle.voice.specs.Frames.{blank, after}
-use Rattle.voice.specs.Legal.{LegalVoice, voice-legal, legal-voice, Ready}
-use Rattle.voice.specs.Kept.{legal-fresh, after-length, after-sample, after-legal}
+use Rattle.voice.specs.Voice.{freshVoice}
+use Rattle.voice.specs.Frames.{blank}
+use Rattle.reader.specs.Layouts.{LegalLayout}
+use Rattle.voice.specs.LegalFacts.{Ready}
+use Rattle.sequencer.specs.LegalFacts.{LegalRun}
 use Rattle.voice.specs.Modules.{table-inside}
-use Rattle.player.specs.declared.State.{State}
-use Rattle.player.specs.State.{freshState, legalVoiceAt, legalState}
+use Rattle.machine.specs.Machine.{freshMachine}
+use Rattle.machine.specs.Kept.{machine-fresh}
+use Rattle.player.specs.State.{freshState, legalState}
 use Rattle.player.specs.Play.{soundings}
-
--- ---- as facts
--- a legal song, and a legal voice for each channel
-pub record LegalState (m : List ℕ) (s : Song) (vs : List Voice) : Type 0 where
-  pub song : LegalSong (songLength m) s
-  pub long : length vs ≡ channels
-  pub voices : (i : ℕ) → i < channels → LegalVoice (getD (extentsOf m) (getD vs i blank .sample) none .end) (getD vs i blank)
-
-pub state-has : (m : List ℕ) (s : State) → length (s .voices) ≡ channels → legalState m s ≡ true → LegalState m (s .song) (s .voices)
-unfolding legalState legalVoiceAt
-state-has m s l e =
-    let all = every (legalVoiceAt m (s .voices)) channels in
-    record {
-      song = song-has (songLength m) (s .song) (first-of (legalSong (songLength m) (s .song)) all e);
-      long = l;
-      voices = λ i h. voice-legal _ _ (every-at (legalVoiceAt m (s .voices)) i channels (second-of (legalSong (songLength m) (s .song)) all e) h);
-    }
-
-pub state-by : (m : List ℕ) (s : State) → LegalState m (s .song) (s .voices) → legalState m s ≡ true
-unfolding legalState legalVoiceAt
-state-by m s l =
-    both _ _ (song-by (songLength m) (s .song) (l .song)) (every-by (legalVoiceAt m (s .voices)) channels (λ i h. legal-voice _ _ (l .voices i h)))
-
--- fresh states are legal
-pub fresh-state : (m : List ℕ) → judged m .number ≡ 0 → legalState m freshState ≡ true
-unfolding freshState
-fresh-state m e =
-    state-by m freshState
-    (record {
-      song = fresh-legal (songLength m) (accepted-has m e .song .0);
-      long = length-each (λ i. fresh) channels;
-      voices = λ i h. rw (getD-each (λ (j : ℕ). fresh) channels i blank h) (legal-fresh _);
-    })
+use Rattle.player.specs.Legal.{LegalState, state-by}
+use Rattle.sequencer.specs.RunLaws.{run-tick, run-kept}
+use Rattle.machine.specs.Carries.{Carries}
 
 -- ---- the sounding samples
-pub soundings-at : (vs : List Voice) (i : ℕ) → i < channels → getD (soundings vs) i 0 ≡ getD vs i blank .sample
+pub soundings-at : (vs : List Voice) (i : ℕ) → i < width → getD (soundings vs) i 0 ≡ getD vs i blank .sample
 unfolding soundings
-soundings-at vs i h = getD-each (λ j. getD vs j blank .sample) channels i 0 h
+soundings-at vs i h = getD-each (λ j. getD vs j blank .sample) width i 0 h
 
-soundings-long : (vs : List Voice) → length (soundings vs) ≡ channels
+soundings-long : (vs : List Voice) → length (soundings vs) ≡ width
 unfolding soundings
-soundings-long vs = length-each (λ i. getD vs i blank .sample) channels
+soundings-long vs = length-each (λ i. getD vs i blank .sample) width
 
--- ---- a tick
-module _ (m : List ℕ) (e : judged m .number ≡ 0) (b : Bytes m) (song : Song) (vs : List Voice) (l : LegalState m song vs) where
+-- ---- the next tick of a legal state
+module _ (m : Module) (y : LegalLayout (m .layout)) (e : verdict m .number ≡ 0) (b : Bytes (m .bytes)) (song : Song) (vs : List Voice) (l : LegalState m song vs) where
   pub state-run : LegalRun m song (soundings vs)
   state-run =
       record {
         song = l .song;
-        sounding = record { long = soundings-long vs; low = λ i h. rw (soundings-at vs i h) (l .voices i h .sample) };
+        sounding =
+            record {
+              long = soundings-long vs;
+              low = λ i h. rw (soundings-at vs i (omega (arith, y .channels))) (l .voices .used i h .sample);
+              rest = λ i w h. soundings-at vs i w ∙ ap (λ (v : Voice). v .sample) (l .voices .rest i w h);
+            };
       }
 
-  pub tick-is-legal : LegalTick (soundings vs) (tickOf m song (soundings vs) .tick)
-  tick-is-legal = run-tick m (accepted-has m e) b song (soundings vs) state-run
+  pub tick-is-legal : LegalTick (sampleCount m) (soundings vs) (tickOf m song (soundings vs) .tick)
+  tick-is-legal = run-tick m (accepted-has m e) b (y .channels) song (soundings vs) state-run
 
-  -- the voices are ready for the tick's commands
+  -- the voices are ready for its commands
   pub tick-ready : Ready m (extentsOf m) vs (tickOf m song (soundings vs) .tick .commands)
   tick-ready =
       record {
-        inside = table-inside m (extentsOf m) refl (accepted-has m e);
-        voices = λ i h. l .voices i (rw (l .long) at h);
+        inside = table-inside m (y .samples) (extentsOf m) refl (accepted-has m e);
+        voices = l .voices;
         commands =
             λ i h.
-            let low : i < channels = rw (l .long) at h in
-            rw (← soundings-at vs i low) (tick-is-legal .commands i (rw (soundings-long vs) low));
+            let w : i < width = omega (arith, y .channels) in
+            rw (← soundings-at vs i w) (tick-is-legal .commands i (rw (soundings-long vs) w));
       }
 
-  -- the samples that sound after the tick are its commands'
-  pub after-soundings : soundings (after (moduleSamples m) vs (tickOf m song (soundings vs) .tick)) ≡ soundingAfterTick m song (soundings vs)
-  after-soundings =
-      let t = tickOf m song (soundings vs) .tick in
-      ext-getD 0 (soundings (after (moduleSamples m) vs t)) (samplesOf (t .commands)) (soundings-long (after (moduleSamples m) vs t) ∙ sym (length-samples (t .commands) ∙ tick-is-legal .long ∙ soundings-long vs))
-      (λ i h.
-      let low : i < channels = rw (soundings-long (after (moduleSamples m) vs t)) at h in
-      soundings-at (after (moduleSamples m) vs t) i low ∙ after-sample (moduleSamples m) vs t i (rw (l .long) low) ∙ sym (getD-samples (t .commands) i))
+module _ {A W : Type 0} (k : Mechanism A W Tick) (voicesOf : W → List Voice) (m : Module) (h : Carries k voicesOf m) (y : LegalLayout (m .layout)) (e : verdict m .number ≡ 0) (b : Bytes (m .bytes)) (song : Song) (w : W) (l : LegalState m song (voicesOf w)) where
+  abbrev vs : List Voice
+  vs = voicesOf w
 
-  -- and the state after it is legal
-  pub tick-kept : LegalState m (tickOf m song (soundings vs) .song) (after (moduleSamples m) vs (tickOf m song (soundings vs) .tick))
+  abbrev t : Tick
+  t = tickOf m song (soundings vs) .tick
+
+  -- the state after the tick is legal
+  pub tick-kept : LegalState m (tickOf m song (soundings vs) .song) (voicesOf (k .after w t))
   tick-kept =
-      let t = tickOf m song (soundings vs) .tick in
       record {
-        song = run-kept m (accepted-has m e) b song (soundings vs) state-run .song;
-        long = after-length (moduleSamples m) vs t ∙ l .long;
-        voices = λ i h. after-legal m (extentsOf m) vs t tick-ready i (rw (l .long) h);
+        song = run-kept m (accepted-has m e) b (y .channels) song (soundings vs) (state-run m y e b song vs l) .song;
+        voices = h .legal w t (tick-ready m y e b song vs l);
       }
+
+  -- the samples that sound after it are its commands'
+  pub after-soundings : soundings (voicesOf (k .after w t)) ≡ soundingAfterTick m song (soundings vs)
+  after-soundings = ext-getD 0 (soundings (voicesOf (k .after w t))) (soundingAfterTick m song (soundings vs)) (soundings-long (voicesOf (k .after w t)) ∙ sym (run .sounding .long)) (λ i p. at i (rw (soundings-long (voicesOf (k .after w t))) at p))
+    where
+      run : LegalRun m (tickOf m song (soundings vs) .song) (soundingAfterTick m song (soundings vs))
+      run = run-kept m (accepted-has m e) b (y .channels) song (soundings vs) (state-run m y e b song vs l)
+
+      at : (i : ℕ) → i < width → getD (soundings (voicesOf (k .after w t))) i 0 ≡ getD (soundingAfterTick m song (soundings vs)) i 0
+      at i low = soundings-at (voicesOf (k .after w t)) i low ∙ by (ltb i (channelCount m)) refl
+        where
+          by : (u : Bool) → ltb i (channelCount m) ≡ u → getD (voicesOf (k .after w t)) i blank .sample ≡ getD (soundingAfterTick m song (soundings vs)) i 0
+          by true q = h .sample w t i (ltb-true i (channelCount m) q) ∙ sym (getD-sounding (t .commands) i)
+          by false q = ap (λ (v : Voice). v .sample) (tick-kept .voices .rest i low (ltb-false i (channelCount m) q)) ∙ sym (run .sounding .rest i low (ltb-false i (channelCount m) q))
+
+-- ---- fresh states are legal
+pub fresh-state : (m : Module) → LegalLayout (m .layout) → verdict m .number ≡ 0 → legalState m freshState ≡ true
+unfolding freshState freshMachine
+fresh-state m y e =
+    state-by m y freshState
+    (record {
+      song = fresh-legal (songLength m) (m .layout) (y .channels) (accepted-has m e .song .0);
+      voices = machine-fresh (m .layout) (extentsOf m) (y .channels) .voices;
+    })
+
+-- and their voices sound nothing
+pub fresh-soundings : soundings (freshState .voices) ≡ freshSounding
+unfolding freshState soundings
+fresh-soundings = same-each (λ (i : ℕ). getD (each (λ (j : ℕ). freshVoice) width) i blank .sample) (λ (i : ℕ). 0) width (λ i h. ap (λ (v : Voice). v .sample) (getD-each (λ (j : ℕ). freshVoice) width i blank h))

@@ -4,36 +4,30 @@ use Prim.Native.Nat.{ℕ, _+_, _-_, _%_, _^_}
 use mathlib.Core.Bool.{not}
 use mathlib.Core.List.{List, [], _∷_}
 use lib.Dec.{ltb, eqb}
-use Rattle.laws.specs.Refusals.{Line, line, refusing}
-use Rattle.reader.specs.Answers.{refused, accepted}
-use Rattle.reader.specs.File.{songLength}
+use Rattle.common.specs.Answers.{refused, accepted, Line, line, refusing}
+use Rattle.reader.specs.File.{Module, moduleOf, songLength}
+use Rattle.sequencer.specs.declared.Desk.{Desk}
 use Rattle.sequencer.specs.declared.Song.{Song}
+use Rattle.sequencer.specs.Songs.{courseFrom, timeAt}
 use Rattle.player.specs.declared.State.{State}
 use Rattle.player.specs.declared.Reply.{Reply}
-use Rattle.player.specs.State.{stateLines}
-use Rattle.player.specs.Play.{reply}
+use Rattle.player.specs.State.{stateLines, reply}
 
--- a page change adds 1 to the page modulo 2^32
-unfoldable pub pageChanged : Song → Song
-pageChanged s =
-    record {
-      at = s .at;
-      next = s .next;
-      repeat = s .repeat;
-      tick = s .tick;
-      delay = s .delay;
-      speed = s .speed;
-      tempo = s .tempo;
-      clock = s .clock;
-      page = (s .page + 1) % 2 ^ 32;
-      channels = s .channels;
-    }
-
+-- the state with another song, its voices as they were
 abbrev pub withSong : State → Song → State
 withSong s song = record { song = song; voices = s .voices }
 
-unfoldable pub changePage : List ℕ → State → Reply
-changePage m s = refusing (λ number place. reply (refused number place) s) (reply (accepted 0) (withSong s (pageChanged (s .song)))) (stateLines m s [])
+-- ---- a page change
+-- adds 1 to the page modulo 2^32
+unfoldable pub pageAfter : Desk → Desk
+pageAfter d = record { clock = d .clock; page = (d .page + 1) % 2 ^ 32 }
+
+unfoldable pub pageChanged : Song → Song
+pageChanged s = record { course = s .course; time = s .time; desk = pageAfter (s .desk); channels = s .channels }
+
+unfoldable pub changePageOf : List ℕ → State → Reply
+changePageOf bytes s =
+    refusing (λ number place. reply (refused number place) s) (reply (accepted 0) (withSong s (pageChanged (s .song)))) (stateLines (moduleOf bytes) s [])
 
 -- ---- a touch carries page, clock when made, and song position
 -- its age is clock minus made, modulo 2^32
@@ -46,29 +40,17 @@ oldest = 25
 
 -- accepted, it sets position and next position to its own, row, next row, u, delay, loop row and count to 0, and nothing else
 unfoldable pub touchedAt : Song → ℕ → Song
-touchedAt s position =
-    record {
-      at = record { position = position; row = 0 };
-      next = record { position = position; row = 0 };
-      repeat = record { row = 0; count = 0 };
-      tick = 0;
-      delay = 0;
-      speed = s .speed;
-      tempo = s .tempo;
-      clock = s .clock;
-      page = s .page;
-      channels = s .channels;
-    }
+touchedAt s position = record { course = courseFrom position; time = timeAt (s .time) 0 0; desk = s .desk; channels = s .channels }
 
 -- from another page; too old; a position at or past song length
-abbrev pub touchLines : List ℕ → Song → ℕ → ℕ → ℕ → List Line
-touchLines m s page made position =
-    line 16 (not (eqb page (s .page))) 0
-    ∷ line 17 (ltb oldest (ageOf (s .clock) made)) 0
+abbrev pub touchLines : Module → Desk → ℕ → ℕ → ℕ → List Line
+touchLines m d page made position =
+    line 16 (not (eqb page (d .page))) 0
+    ∷ line 17 (ltb oldest (ageOf (d .clock) made)) 0
     ∷ line 18 (not (ltb position (songLength m))) 0
     ∷ []
 
 unfoldable pub touchOf : List ℕ → State → ℕ → ℕ → ℕ → Reply
-touchOf m s page made position =
+touchOf bytes s page made position =
     refusing (λ number place. reply (refused number place) s) (reply (accepted 0) (withSong s (touchedAt (s .song) position)))
-    (stateLines m s (touchLines m (s .song) page made position))
+    (stateLines (moduleOf bytes) s (touchLines (moduleOf bytes) (s .song .desk) page made position))

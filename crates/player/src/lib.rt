@@ -1,21 +1,22 @@
 // The player: states, play, touches and page changes. Every call judges the module again, and answers any state.
 ghost use mathlib.Core.Path.{_≡_};
-ghost use Rattle.reader.specs.Answers.{refused};
-ghost use Rattle.player.specs.State.{freshState};
-ghost use Rattle.player.specs.Play.{reply, outcome, playOf};
-ghost use Rattle.player.specs.Touch.{changePage, ageOf, touchOf};
-use reader::Answer;
+ghost use Rattle.common.specs.Answers.{refused, outcome};
+ghost use Rattle.player.specs.State.{freshState, reply};
+ghost use Rattle.player.specs.Play.{playOf};
+ghost use Rattle.player.specs.Touch.{changePageOf, ageOf, touchOf};
+use common::Answer;
+use common::limits::WIDTH;
 use sequencer::Song;
 use voice::Voice;
 
-pub mod legality;
-pub mod moves;
-pub mod playing;
+mod legality;
+mod moves;
+mod playing;
 
 // A state: the song and its voices. Any numbers may stand in it.
 pub struct State {
     pub song: Song,
-    pub voices: [Voice; 4],
+    pub voices: [Voice; WIDTH],
 }
 
 // What a call returns: its answer, and the state after it.
@@ -31,11 +32,7 @@ fn refuse(number: u32, place: usize, state: State) -> Reply
     ensures { λ r. ⌜ r ≡ reply (refused number place) state ⌝ }
 {
     Reply {
-        answer: Answer {
-            number: number,
-            place: place,
-            count: 0,
-        },
+        answer: common::refuse(number, place),
         state: state,
     }
 }
@@ -44,8 +41,7 @@ fn refuse(number: u32, place: usize, state: State) -> Reply
 pub fn fresh() -> State
     ensures { λ r. ⌜ r ≡ freshState ⌝ }
 {
-    let silent = Voice::fresh();
-    let voices = [silent; 4];
+    let voices = machine::fresh().voices;
     State {
         song: sequencer::fresh(),
         voices: voices,
@@ -56,24 +52,26 @@ pub fn fresh() -> State
 pub fn play(file: &[u8], state: State, ticks: u32, out: &mut [i16]) -> Reply
     ensures { λ r. ⌜ outcome r (now (out .exit)) ≡ playOf (now (file .entry)) state ticks (now (out .entry)) ⌝ }
 {
-    let verdict = legality::judge_state(file, state);
-    let number = verdict.number;
+    let layout = reader::offsets::four_channels();
+    let judged = legality::judge_state(layout, file, state);
+    let number = judged.number;
     if number != 0 {
-        return refuse(number, verdict.place, state);
+        return refuse(number, judged.place, state);
     }
     let song = state.song;
     let voices = state.voices;
-    playing::play_ticks(file, song, voices, ticks, out)
+    playing::play_ticks(layout, file, song, voices, ticks, out)
 }
 
 // A page change: touches made on the page before are refused from now on.
 pub fn change_page(file: &[u8], state: State) -> Reply
-    ensures { λ r. ⌜ r ≡ changePage (now (file .entry)) state ⌝ }
+    ensures { λ r. ⌜ r ≡ changePageOf (now (file .entry)) state ⌝ }
 {
-    let verdict = legality::judge_state(file, state);
-    let number = verdict.number;
+    let layout = reader::offsets::four_channels();
+    let judged = legality::judge_state(layout, file, state);
+    let number = judged.number;
     if number != 0 {
-        return refuse(number, verdict.place, state);
+        return refuse(number, judged.place, state);
     }
     moves::turn_page(state)
 }
@@ -88,18 +86,19 @@ fn age(clock: u32, made: u32) -> u32
 pub fn touch(file: &[u8], state: State, page: u32, made: u32, position: u32) -> Reply
     ensures { λ r. ⌜ r ≡ touchOf (now (file .entry)) state page made position ⌝ }
 {
-    let verdict = legality::judge_state(file, state);
-    let number = verdict.number;
+    let layout = reader::offsets::four_channels();
+    let judged = legality::judge_state(layout, file, state);
+    let number = judged.number;
     if number != 0 {
-        return refuse(number, verdict.place, state);
+        return refuse(number, judged.place, state);
     }
-    if page != state.song.page {
+    if page != state.song.desk.page {
         return refuse(16, 0, state);
     }
-    if age(state.song.clock, made) > OLDEST {
+    if age(state.song.desk.clock, made) > OLDEST {
         return refuse(17, 0, state);
     }
-    if position >= reader::song::song_length(file) {
+    if position >= reader::song::song_length(layout, file) {
         return refuse(18, 0, state);
     }
     moves::go_to(state, position)

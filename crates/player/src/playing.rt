@@ -1,34 +1,35 @@
 // Playing ticks one by one into a buffer.
 ghost use mathlib.Core.Path.{_≡_};
-ghost use Rattle.reader.specs.Answers.{accepted};
-ghost use Rattle.player.specs.State.{Playable};
-ghost use Rattle.player.specs.Play.{reply, soundings, outcome, played};
+ghost use Rattle.common.specs.Answers.{accepted, outcome};
+ghost use Rattle.reader.specs.File.{lent};
+ghost use Rattle.player.specs.State.{reply};
+ghost use Rattle.player.specs.Play.{soundings, playedFrom};
+ghost use Rattle.player.specs.Legal.{Playable};
 use crate::Reply;
 use crate::State;
-use reader::Answer;
+use common::limits::WIDTH;
+use machine::Machine;
+use reader::Layout;
 use sequencer::Song;
 use voice::Voice;
 
 // The sounding sample numbers.
-fn sounding_samples(voices: [Voice; 4]) -> [u32; 4]
+fn soundings(voices: [Voice; WIDTH]) -> [u32; WIDTH]
     ensures { λ r. ⌜ r ≡ soundings voices ⌝ }
 {
-    let mut samples = [0u32; 4];
-    for i in 0..reader::CHANNELS {
+    let mut samples = [0u32; WIDTH];
+    for i in 0..WIDTH {
         samples[i] = voices[i].sample;
     }
     samples
 }
 
-fn after_ticks(song: Song, voices: [Voice; 4], count: u32) -> Reply
-    ensures { λ r. ⌜ r ≡ reply (accepted count) (record { song = song; voices = voices }) ⌝ }
+fn after_ticks(song: Song, machine: Machine, count: u32) -> Reply
+    ensures { λ r. ⌜ r ≡ reply (accepted count) (record { song = song; voices = machine .voices }) ⌝ }
 {
+    let voices = machine.voices;
     Reply {
-        answer: Answer {
-            number: 0,
-            place: 0,
-            count: count as usize,
-        },
+        answer: common::accept(count as usize),
         state: State {
             song: song,
             voices: voices,
@@ -37,28 +38,35 @@ fn after_ticks(song: Song, voices: [Voice; 4], count: u32) -> Reply
 }
 
 // Plays at most n ticks of an accepted module from a legal state.
-pub fn play_ticks(file: &[u8], start: Song, sounding: [Voice; 4], n: u32, out: &mut [i16]) -> Reply
-    requires { ⌜ Playable (now file) (record { song = start; voices = sounding }) ⌝ }
-    ensures { λ r. ⌜ outcome r (now (out .exit)) ≡ played (now (file .entry)) (record { song = start; voices = sounding }) n (now (out .entry)) ⌝ }
+pub fn play_ticks(
+    layout: Layout,
+    file: &[u8],
+    start: Song,
+    sounding: [Voice; WIDTH],
+    n: u32,
+    out: &mut [i16],
+) -> Reply
+    requires { ⌜ Playable (lent layout (now file)) (record { song = start; voices = sounding }) ⌝ }
+    ensures { λ r. ⌜ outcome r (now (out .exit)) ≡ playedFrom (lent layout (now (file .entry))) (record { song = start; voices = sounding }) n (now (out .entry)) ⌝ }
 {
-    let extents = reader::samples::extents(file);
+    let extents = reader::samples::extents(layout, file);
     let mut song = start;
-    let mut voices = sounding;
+    let mut machine = Machine { voices: sounding };
     let mut at: usize = 0;
     let mut i: u32 = 0;
     while i < n {
-        let worked = sequencer::tick(file, song, sounding_samples(voices));
+        let voices = machine.voices;
+        let worked = sequencer::tick(layout, file, song, soundings(voices));
         let next = worked.song;
         let tick = worked.tick;
-        let size = voice::mix::tick_size(tick.tempo);
-        if out.len() - at < size {
-            return after_ticks(song, voices, i);
+        let turn = machine::play_tick(layout, file, extents, machine, tick, &mut out[at..]);
+        if turn.full {
+            return after_ticks(song, machine, i);
         }
-        let moved = voice::mix::render(file, extents, voices, tick, &mut out[at..]);
-        voices = moved;
+        machine = turn.machine;
         song = next;
-        at = at + size;
+        at = at + turn.size;
         i = i + 1;
     }
-    after_ticks(song, voices, i)
+    after_ticks(song, machine, i)
 }

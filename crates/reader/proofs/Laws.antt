@@ -1,42 +1,39 @@
 -- What the leaf functions need, over plain variables.
 -- Assumes nothing.
-use mathlib.Core.Path.{_≡_, refl, ap, _∙_}
+use mathlib.Core.Path.{_≡_, refl}
 use mathlib.Core.Bool.{Bool, true, false, _||_, _&&_}
 use Prim.Native.Nat.{ℕ, _+_, _*_, _/_, _%_, _≤_, _<_}
 use native.Mathlib.Omega.{arith}
-use native.Mathlib.Nat.{mod-lt, mod-eq-of-lt, add-mul-mod-self-right, div-eq-of-lt-le}
-use lib.Dec.{lit<, ltb}
+use native.Mathlib.Nat.{mul-le-mul-right}
+use lib.Dec.{ltb}
 use borrow.Author.Tests.{lt-ltb, le-ltb, ne-eqb, ltb-true, ltb-false}
 use Rattle.laws.specs.Tests.{is-and-false, is-and-true, same-test}
-use Rattle.reader.specs.Judge.{outside}
+use Rattle.reader.specs.Layouts.{LegalLayout}
+use Rattle.common.specs.Limits.{width, leastCellPeriod, greatestCellPeriod, badPeriod}
+use Rattle.reader.specs.declared.Layout.{Layout}
 
--- the first byte alone decides whether a sample number is above 31
-pub number-high : (b0 b2 : ℕ) → b2 < 256 → ltb 31 b0 ≡ ltb 31 (b0 / 16 * 16 + b2 / 16)
-number-high b0 b2 h = same-test 31 b0 31 (b0 / 16 * 16 + b2 / 16) (λ (k : 31 < b0). omega arith) (λ (k : 31 < b0 / 16 * 16 + b2 / 16). omega arith)
+-- the first byte alone decides whether a sample number is above the last, which is one less than a multiple of 16
+pub number-high : (last b0 b2 r : ℕ) → (last + 1) % 16 ≡ 0 → r ≡ b0 → b2 < 256 → ltb last r ≡ ltb last (b0 / 16 * 16 + b2 / 16)
+number-high last b0 b2 r m e h = same-test last r last (b0 / 16 * 16 + b2 / 16) (λ (k : last < r). omega arith) (λ (k : last < b0 / 16 * 16 + b2 / 16). omega arith)
 
--- ---- two bytes turned
-turn-by : (v h l : ℕ) → v ≡ h + l * 256 → h < 256 → l < 256 → v * 65537 / 256 % 65536 ≡ h * 256 + l
-turn-by v h l e p q = ap (λ (x : ℕ). x % 65536) half ∙ (add-mul-mod-self-right (h * 256 + l) l 65536 ∙ mod-eq-of-lt (omega arith))
-  where
-    half : v * 65537 / 256 ≡ h * 256 + l + l * 65536
-    half = div-eq-of-lt-le 256 (omega arith) (omega arith)
-
-pub turn : (a b h l : ℕ) → a ≡ h → b ≡ l → a < 256 → b < 256 → ((a + b * 256) * 65537 / 256 % 65536 ≡ h * 256 + l) × ((a + b * 256) * 65537 / 256 % 65536 < 65536)
-turn a b h l e q i j = (turn-by (a + b * 256) h l (omega arith) (omega arith) (omega arith), mod-lt ((a + b * 256) * 65537 / 256) (lit< tt))
+-- so many rows have few cells
+pub few-cells : (l : Layout) (rows : ℕ) → LegalLayout l → l .channels * rows ≤ width * rows
+few-cells l rows h = mul-le-mul-right rows (h .channels)
 
 -- ---- the test that the code makes of a cell's first two bytes is the table's
-cell-high : (p z n : ℕ) → 856 < z → 31 < n → outside z ≡ (ltb 31 n || outside p)
-cell-high p z n h k = rw (lt-ltb 31 n k, lt-ltb 856 z h, ne-eqb z 0 (λ (e : z ≡ 0). omega arith), le-ltb z 113 (omega arith))
-
-cell-low : (p z n : ℕ) → z ≡ p → n ≤ 31 → outside z ≡ (ltb 31 n || outside p)
-cell-low p z n h k = rw (h, le-ltb 31 n k)
-
-pub cell-test : (b0 b1 b2 w : ℕ) → b0 < 256 → b1 < 256 → b2 < 256 → w ≡ b0 * 256 + b1 → outside (w % 4096 + w / 8192 * 8192) ≡ (ltb 31 (b0 / 16 * 16 + b2 / 16) || outside (b0 % 16 * 256 + b1))
-cell-test b0 b1 b2 w h k l e = by (ltb 31 b0) refl
+pub cell-test : (last b0 b1 b2 w z : ℕ) → (last + 1) % 16 ≡ 0 → b0 < 256 → b1 < 256 → b2 < 256 → w ≡ b0 * 256 + b1 → (last < w / 256 → greatestCellPeriod < z) → (w / 256 ≤ last → z ≡ w % 4096) → badPeriod z ≡ (ltb last (b0 / 16 * 16 + b2 / 16) || badPeriod (b0 % 16 * 256 + b1))
+cell-test last b0 b1 b2 w z m h k l e high low = by (ltb last b0) refl
   where
-    by : (t : Bool) → ltb 31 b0 ≡ t → outside (w % 4096 + w / 8192 * 8192) ≡ (ltb 31 (b0 / 16 * 16 + b2 / 16) || outside (b0 % 16 * 256 + b1))
-    by true q = let g : 31 < b0 = ltb-true 31 b0 q in cell-high (b0 % 16 * 256 + b1) (w % 4096 + w / 8192 * 8192) (b0 / 16 * 16 + b2 / 16) (omega arith) (omega arith)
-    by false q = let g : b0 ≤ 31 = ltb-false 31 b0 q in cell-low (b0 % 16 * 256 + b1) (w % 4096 + w / 8192 * 8192) (b0 / 16 * 16 + b2 / 16) (omega arith) (omega arith)
+    by : (t : Bool) → ltb last b0 ≡ t → badPeriod z ≡ (ltb last (b0 / 16 * 16 + b2 / 16) || badPeriod (b0 % 16 * 256 + b1))
+    by true q =
+        let g : last < b0 = ltb-true last b0 q in
+        let x : greatestCellPeriod < z = high (omega arith) in
+        rw (lt-ltb last (b0 / 16 * 16 + b2 / 16) (omega arith), lt-ltb greatestCellPeriod z x, ne-eqb z 0 (λ (y : z ≡ 0). omega arith), le-ltb z leastCellPeriod (omega arith))
+    by false q =
+        let g : b0 ≤ last = ltb-false last b0 q in
+        let x : z ≡ w % 4096 = low (omega arith) in
+        let y : z ≡ b0 % 16 * 256 + b1 = omega arith in
+        rw (le-ltb last (b0 / 16 * 16 + b2 / 16) (omega arith), y)
 
 -- ---- a header's loop
 pub loop-short : (again a l s : ℕ) → again ≡ a → again < 2 → false ≡ ltb 1 a && ltb l (s + a)

@@ -8,85 +8,101 @@ use native.Mathlib.Omega.{arith}
 use lib.Dec.{ltb}
 use lib.ListN.{length}
 use borrow.Author.Tests.{lt-ltb, le-ltb}
-use Rattle.laws.specs.Search.{some, first, total, some-below, some-above}
-use Rattle.laws.specs.Refusals.{refusing}
-use Rattle.reader.specs.File.{samples, volumeAt, startAt, songAt, entries, tableAt, tagAt, patternsAt, patternBytes, channels, patternsOf, lengthOf, sampleAt}
-use Rattle.reader.specs.Judge.{refused, accepted, tagged, badLength, badEntry, badVolume, badLoop, badNumber, badCell, cellPlace, cellLines, restLines, judged}
-use Rattle.reader.specs.declared.Verdict.{Verdict}
+use Rattle.laws.specs.Search.{some-below, some-above}
+use Rattle.common.specs.Answers.{refusing, refused, accepted}
+use Rattle.reader.specs.File.{sampleCount, volumePlace, loopStartPlace, cellsIn, sampleBehind, samplePlace, Module, lent, entries, cellPlace, patternsOf}
+use Rattle.common.specs.Limits.{rows}
+use Rattle.common.specs.declared.Answer.{Answer}
+use Rattle.reader.specs.Judge.{tagged, badLength, badEntry, badVolume, badLoop, badCell, cellLines, restLines, badNumberAt, verdict}
+use Rattle.reader.specs.declared.Layout.{Layout}
+use Rattle.laws.specs.Ranges.{some, first}
 
-module _ (m : List ℕ) where
-  pub refused-1 : length m < patternsAt → refused 1 (length m) ≡ judged m
-  unfolding judged refusing
-  refused-1 h = rw (lt-ltb (length m) patternsAt h)
+module _ (layout : Layout) (bytes : List ℕ) where
+  abbrev m : Module
+  m = lent layout bytes
 
-  module _ (long : patternsAt ≤ length m) (t : Bool) (te : t ≡ tagged m) where
-    p1 : ltb (length m) patternsAt ≡ false
-    p1 = le-ltb (length m) patternsAt long
+  pub refused-1 : length (m .bytes) < m .layout .patterns → (x : Answer) → x ≡ refused 1 (length (m .bytes)) → x ≡ verdict m
+  unfolding verdict refusing
+  refused-1 h x z = z ∙ rw (lt-ltb (length (m .bytes)) (m .layout .patterns) h)
 
-    pub refused-2 : not t ≡ true → refused 2 tagAt ≡ judged m
-    unfolding judged refusing
-    refused-2 h = rw (p1, ← te, h)
+  module _ (long : m .layout .patterns ≤ length (m .bytes)) (t : Bool) (te : t ≡ tagged m) where
+    p1 : ltb (length (m .bytes)) (m .layout .patterns) ≡ false
+    p1 = le-ltb (length (m .bytes)) (m .layout .patterns) long
+
+    pub refused-2 : not t ≡ true → (x : Answer) → x ≡ refused 2 (m .layout .tag) → x ≡ verdict m
+    unfolding verdict refusing
+    refused-2 h x z = z ∙ rw (p1, ← te, h)
 
     module _ (tq : not t ≡ false) (l : Bool) (le : l ≡ badLength m) where
       p2 : not (tagged m) ≡ false
       p2 = ap not (sym te) ∙ tq
 
-      pub refused-3 : l ≡ true → refused 3 songAt ≡ judged m
-      unfolding judged refusing
-      refused-3 h = rw (p1, p2, ← le, h)
+      pub refused-3 : l ≡ true → (x : Answer) → x ≡ refused 3 (m .layout .song) → x ≡ verdict m
+      unfolding verdict refusing
+      refused-3 h x z = z ∙ rw (p1, p2, ← le, h)
 
       module _ (lq : l ≡ false) (e : ℕ) (ee : e ≡ first (badEntry m) entries) where
         p3 : badLength m ≡ false
         p3 = sym le ∙ lq
 
-        pub refused-4 : e < entries → refused 4 (tableAt + e) ≡ judged m
-        unfolding judged refusing
-        refused-4 h = rw (p1, p2, p3, some-below (badEntry m) entries e ee h, ← ee)
+        pub refused-4 : e < entries → (x : Answer) → x ≡ refused 4 (m .layout .table + e) → x ≡ verdict m
+        unfolding verdict refusing
+        refused-4 h x z = z ∙ rw (p1, p2, p3, some-below (badEntry m) entries e ee h, ← ee)
 
-        module _ (eq : entries ≤ e) (v : ℕ) (ve : v ≡ first (badVolume m) samples) where
+        module _ (eq : entries ≤ e) (v : ℕ) (ve : v ≡ first (badVolume m) (sampleCount m)) where
           p4 : some (badEntry m) entries ≡ false
           p4 = some-above (badEntry m) entries e ee eq
 
-          pub refused-5 : v < samples → refused 5 (volumeAt v) ≡ judged m
-          unfolding judged refusing
-          refused-5 h = rw (p1, p2, p3, p4, some-below (badVolume m) samples v ve h, ← ve)
+          pub refused-5 : v < sampleCount m → (x : Answer) → x ≡ refused 5 (volumePlace v) → x ≡ verdict m
+          unfolding verdict refusing
+          refused-5 h x z = z ∙ rw (p1, p2, p3, p4, some-below (badVolume m) (sampleCount m) v ve h, ← ve)
 
-          module _ (vq : samples ≤ v) (o : ℕ) (oe : o ≡ first (badLoop m) samples) where
-            p5 : some (badVolume m) samples ≡ false
-            p5 = some-above (badVolume m) samples v ve vq
+          module _ (vq : sampleCount m ≤ v) (o : ℕ) (oe : o ≡ first (badLoop m) (sampleCount m)) where
+            p5 : some (badVolume m) (sampleCount m) ≡ false
+            p5 = some-above (badVolume m) (sampleCount m) v ve vq
 
-            pub refused-6 : o < samples → refused 6 (startAt o) ≡ judged m
-            unfolding judged refusing
-            refused-6 h = rw (p1, p2, p3, p4, p5, some-below (badLoop m) samples o oe h, ← oe)
+            pub refused-6 : o < sampleCount m → (x : Answer) → x ≡ refused 6 (loopStartPlace o) → x ≡ verdict m
+            unfolding verdict refusing
+            refused-6 h x z = z ∙ rw (p1, p2, p3, p4, p5, some-below (badLoop m) (sampleCount m) o oe h, ← oe)
 
-            pub refused-rest : samples ≤ o → (r : Verdict) → r ≡ refusing refused accepted (restLines m) → r ≡ judged m
-            unfolding judged refusing
-            refused-rest h r q = rw (p1, p2, p3, p4, p5, some-above (badLoop m) samples o oe h) q
+            pub refused-rest : sampleCount m ≤ o → (r : Answer) → r ≡ refusing refused (accepted 0) (restLines m) → r ≡ verdict m
+            unfolding verdict refusing
+            refused-rest h r q = rw (p1, p2, p3, p4, p5, some-above (badLoop m) (sampleCount m) o oe h) q
 
-module _ (m : List ℕ) (n s : ℕ) (ne : n ≡ patternsOf m) (se : s ≡ patternsAt + patternBytes * n + 2 * total (lengthOf m) samples) where
-  pub refused-7 : length m < s → refused 7 (length m) ≡ refusing refused accepted (restLines m)
-  unfolding refusing sampleAt
-  refused-7 h = rw (lt-ltb (length m) (sampleAt m samples) (omega arith))
+module _ (layout : Layout) (bytes : List ℕ) (n s : ℕ) (ne : n ≡ patternsOf (lent layout bytes)) (se : s ≡ sampleBehind (lent layout bytes) n (layout .samples)) where
+  abbrev k : Module
+  k = lent layout bytes
 
-  pub refused-cells : s ≤ length m → (r : Verdict) → r ≡ refusing refused accepted (cellLines m (64 * channels * n)) → r ≡ refusing refused accepted (restLines m)
-  unfolding refusing sampleAt
-  refused-cells h r q = rw (le-ltb (length m) (sampleAt m samples) (omega arith), ← ne) q
+  room : s ≡ samplePlace k (sampleCount k)
+  unfolding samplePlace
+  room = rw (← ne) se
 
-  pub refused-clean : s ≤ length m → (b : Bool) → b ≡ some (badCell m) (64 * channels * n) → b ≡ false → accepted ≡ refusing refused accepted (restLines m)
-  unfolding refusing sampleAt
-  refused-clean h b be q = rw (le-ltb (length m) (sampleAt m samples) (omega arith), ← ne, ← be, q)
+  pub refused-7 : length (k .bytes) < s → (x : Answer) → x ≡ refused 7 (length (k .bytes)) → x ≡ refusing refused (accepted 0) (restLines k)
+  unfolding refusing restLines
+  refused-7 h x z = z ∙ rw (lt-ltb (length (k .bytes)) (samplePlace k (sampleCount k)) (omega (arith, room)))
+
+  pub refused-cells : (all : ℕ) → all ≡ cellsIn (k .layout) (rows * n) → s ≤ length (k .bytes) → (r : Answer) → r ≡ refusing refused (accepted 0) (cellLines k all) → r ≡ refusing refused (accepted 0) (restLines k)
+  unfolding refusing restLines
+  refused-cells all ae h r q = rw (le-ltb (length (k .bytes)) (samplePlace k (sampleCount k)) (omega (arith, room)), ← ne, ← ae) q
+
+  pub refused-clean : (all : ℕ) → all ≡ cellsIn (k .layout) (rows * n) → s ≤ length (k .bytes) → (b : Bool) → b ≡ some (badCell k) all → b ≡ false → (x : Answer) → x ≡ accepted 0 → x ≡ refusing refused (accepted 0) (restLines k)
+  unfolding refusing restLines cellLines
+  refused-clean all ae h b be q x z = z ∙ rw (le-ltb (length (k .bytes)) (samplePlace k (sampleCount k)) (omega (arith, room)), ← ne, ← ae, ← be, q)
 
 -- ---- of n cells, the first that was found
-module _ (m : List ℕ) (n i : ℕ) (ie : i ≡ first (badCell m) n) where
-  pub refused-none : n ≤ i → accepted ≡ refusing refused accepted (cellLines m n)
-  unfolding refusing
-  refused-none h = rw (some-above (badCell m) n i ie h)
+module _ (layout : Layout) (bytes : List ℕ) (n i : ℕ) (ie : i ≡ first (badCell (lent layout bytes)) n) where
+  abbrev o : Module
+  o = lent layout bytes
 
-  module _ (l : i < n) (r : Bool) (re : r ≡ badNumber m (cellPlace i)) where
-    pub refused-8 : r ≡ true → refused 8 (cellPlace i) ≡ refusing refused accepted (cellLines m n)
-    unfolding refusing
-    refused-8 q = rw (some-below (badCell m) n i ie l, ← ie, ← re, q)
+  pub refused-none : n ≤ i → (x : Answer) → x ≡ accepted 0 → x ≡ refusing refused (accepted 0) (cellLines o n)
+  unfolding refusing cellLines
+  refused-none h x z = z ∙ rw (some-above (badCell o) n i ie h)
 
-    pub refused-9 : r ≡ false → refused 9 (cellPlace i) ≡ refusing refused accepted (cellLines m n)
-    unfolding refusing
-    refused-9 q = rw (some-below (badCell m) n i ie l, ← ie, ← re, q)
+  module _ (l : i < n) (r : Bool) (re : r ≡ badNumberAt o (cellPlace (o .layout) i)) where
+    pub refused-8 : r ≡ true → (x : Answer) → x ≡ refused 8 (cellPlace (o .layout) i) → x ≡ refusing refused (accepted 0) (cellLines o n)
+    unfolding refusing cellLines
+    refused-8 q x z = z ∙ rw (some-below (badCell o) n i ie l, ← ie, ← re, q)
+
+    pub refused-9 : r ≡ false → (x : Answer) → x ≡ refused 9 (cellPlace (o .layout) i) → x ≡ refusing refused (accepted 0) (cellLines o n)
+    unfolding refusing cellLines
+    refused-9 q x z = z ∙ rw (some-below (badCell o) n i ie l, ← ie, ← re, q)

@@ -1,89 +1,104 @@
--- The file: where its parts lie. Offsets in bytes from 0, two-byte numbers high byte first.
--- The number of samples, the number of channels and what follows from them are named here and nowhere else.
+-- The file: its layout, and where its parts lie. Offsets in bytes from 0, two-byte numbers high byte first.
+-- What follows from the number of samples, the tag and the number of channels is named here and nowhere else.
 -- Assumes nothing.
-use Prim.Native.Nat.{ℕ, _+_, _*_}
+use Prim.Native.Nat.{ℕ, _+_, _*_, _/_}
 use mathlib.Core.List.{List}
-use lib.ListN.{getD}
-use Rattle.laws.specs.Search.{total, largest}
+use Rattle.laws.specs.Ranges.{total, largest}
+use Rattle.reader.specs.declared.Layout.{Layout}
+use Rattle.common.specs.Limits.{rows}
+use Rattle.common.specs.Bytes.{byteAt, wordAt}
 
--- the byte at a place, 0 past the end
-abbrev pub byteAt : List ℕ → ℕ → ℕ
-byteAt m i = getD m i 0
+-- ---- the layout
+-- 128 table entries
+abbrev pub entries : ℕ
+entries = 128
 
--- two bytes, the high one first
-abbrev pub wordAt : List ℕ → ℕ → ℕ
-wordAt m i = byteAt m i * 256 + byteAt m (i + 1)
+-- a table entry names a pattern, to 63
+abbrev pub lastPattern : ℕ
+lastPattern = 63
+
+-- a file that is read by a layout
+pub record Module : Type 0 where
+  pub layout : Layout
+  pub bytes : List ℕ
+
+abbrev pub lent : Layout → List ℕ → Module
+lent l m = record { layout = l; bytes = m }
+
+-- the layout of a file with so many samples and channels: 31 samples and a tag, or 15 and none
+abbrev pub layoutFor : ℕ → ℕ → Layout
+layoutFor n c =
+    record {
+      samples = n;
+      channels = c;
+      song = 20 + 30 * n;
+      table = 22 + 30 * n;
+      tag = 150 + 30 * n;
+      patterns = 150 + 30 * n + n / 16 * 4;
+    }
+
+-- 31-sample, four-channel files
+abbrev pub fourChannels : Layout
+fourChannels = layoutFor 31 4
+
+abbrev pub moduleOf : List ℕ → Module
+moduleOf bytes = lent fourChannels bytes
+
+abbrev pub sampleCount : Module → ℕ
+sampleCount m = m .layout .samples
+
+abbrev pub channelCount : Module → ℕ
+channelCount m = m .layout .channels
 
 -- ---- the headers
--- 31 samples
-abbrev pub samples : ℕ
-samples = 31
-
 -- headers of 30 bytes from 20: header k, from 0
 abbrev pub headerAt : ℕ → ℕ
 headerAt k = 20 + 30 * k
 
 -- length in words at +22, volume +25, repeat start +26 and repeat length +28 in words
-abbrev pub lengthOf : List ℕ → ℕ → ℕ
-lengthOf m k = wordAt m (headerAt k + 22)
+abbrev pub sampleWords : List ℕ → ℕ → ℕ
+sampleWords xs k = wordAt xs (headerAt k + 22)
 
-abbrev pub volumeAt : ℕ → ℕ
-volumeAt k = headerAt k + 25
+abbrev pub volumePlace : ℕ → ℕ
+volumePlace k = headerAt k + 25
 
-abbrev pub volumeOf : List ℕ → ℕ → ℕ
-volumeOf m k = byteAt m (volumeAt k)
+abbrev pub headerVolume : List ℕ → ℕ → ℕ
+headerVolume xs k = byteAt xs (volumePlace k)
 
-abbrev pub startAt : ℕ → ℕ
-startAt k = headerAt k + 26
+abbrev pub loopStartPlace : ℕ → ℕ
+loopStartPlace k = headerAt k + 26
 
-abbrev pub startOf : List ℕ → ℕ → ℕ
-startOf m k = wordAt m (startAt k)
+abbrev pub loopStart : List ℕ → ℕ → ℕ
+loopStart xs k = wordAt xs (loopStartPlace k)
 
-abbrev pub repeatOf : List ℕ → ℕ → ℕ
-repeatOf m k = wordAt m (headerAt k + 28)
+abbrev pub loopLength : List ℕ → ℕ → ℕ
+loopLength xs k = wordAt xs (headerAt k + 28)
 
 -- ---- the song
--- song length at 950
-abbrev pub songAt : ℕ
-songAt = headerAt samples
+abbrev pub songLength : Module → ℕ
+songLength m = byteAt (m .bytes) (m .layout .song)
 
-abbrev pub songLength : List ℕ → ℕ
-songLength m = byteAt m songAt
-
--- 128 table entries from 952
-abbrev pub entries : ℕ
-entries = 128
-
-abbrev pub tableAt : ℕ
-tableAt = songAt + 2
-
-abbrev pub entryOf : List ℕ → ℕ → ℕ
-entryOf m i = byteAt m (tableAt + i)
-
--- tag at 1080
-abbrev pub tagAt : ℕ
-tagAt = tableAt + entries
+abbrev pub entryOf : Module → ℕ → ℕ
+entryOf m i = byteAt (m .bytes) (m .layout .table + i)
 
 -- ---- the patterns
--- patterns from 1084
-abbrev pub patternsAt : ℕ
-patternsAt = tagAt + 4
+-- 64 rows of a cell of four bytes for each channel; the rows of all patterns are counted in file order
+abbrev pub cellsIn : Layout → ℕ → ℕ
+cellsIn l n = l .channels * n
 
--- 64 rows of four cells of four bytes: 1,024 bytes each
-abbrev pub channels : ℕ
-channels = 4
-
-abbrev pub rowBytes : ℕ
-rowBytes = channels * 4
-
-abbrev pub patternBytes : ℕ
-patternBytes = 64 * rowBytes
+-- cell i of all patterns, in file order
+abbrev pub cellPlace : Layout → ℕ → ℕ
+cellPlace l i = l .patterns + 4 * i
 
 -- their count is one more than the largest of all 128 entries
-unfoldable pub patternsOf : List ℕ → ℕ
+unfoldable pub patternsOf : Module → ℕ
 patternsOf m = largest (entryOf m) entries + 1
 
 -- ---- the samples
--- then the samples in order, two bytes a word: where sample k, from 0, begins; at 31 the end of the last
-unfoldable pub sampleAt : List ℕ → ℕ → ℕ
-sampleAt m k = patternsAt + patternBytes * patternsOf m + 2 * total (lengthOf m) k
+-- then the samples in order, two bytes a word: where sample k, from 0, begins behind n patterns
+abbrev pub sampleBehind : Module → ℕ → ℕ → ℕ
+sampleBehind m n k = cellPlace (m .layout) (cellsIn (m .layout) (rows * n)) + 2 * total (sampleWords (m .bytes)) k
+
+-- behind all of them; at the number of samples, the end of the last
+unfoldable pub samplePlace : Module → ℕ → ℕ
+samplePlace m k = sampleBehind m (patternsOf m) k

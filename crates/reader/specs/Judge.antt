@@ -5,104 +5,97 @@ use mathlib.Core.Bool.{Bool, not, _||_, _&&_}
 use mathlib.Core.List.{List, [], _∷_}
 use lib.ListN.{length}
 use lib.Dec.{ltb, eqb}
-use Rattle.laws.specs.Search.{some, first}
-use Rattle.laws.specs.Refusals.{Line, line, refusing}
-use Rattle.reader.specs.File.{byteAt, samples, lengthOf, volumeAt, volumeOf, startAt, startOf, repeatOf, songAt, songLength, entries, tableAt, entryOf, tagAt, patternsAt, channels, patternsOf, sampleAt}
-use Rattle.reader.specs.declared.Verdict.{Verdict}
-
--- a refusal returns number and place; an accepted call returns number and place 0
-abbrev pub refused : ℕ → ℕ → Verdict
-refused number place = record { number = number; place = place }
-
-abbrev pub accepted : Verdict
-accepted = refused 0 0
+use Rattle.laws.specs.Ranges.{some, first}
+use Rattle.common.specs.Answers.{Line, line, refusing, refused, accepted}
+use Rattle.reader.specs.File.{sampleCount, sampleWords, volumePlace, headerVolume, loopStartPlace, loopStart, loopLength, cellsIn, samplePlace, Module, moduleOf, lastPattern, songLength, entries, entryOf, cellPlace, patternsOf}
+use Rattle.common.specs.Bytes.{byteAt}
+use Rattle.common.specs.declared.Answer.{Answer}
+use Rattle.common.specs.Limits.{loudest, rows, badPeriod}
 
 -- ---- what is bad
--- the tag is `M.K.`
-unfoldable pub tagged : List ℕ → Bool
-tagged m = eqb (byteAt m tagAt) 0x4D && (eqb (byteAt m (tagAt + 1)) 0x2E && (eqb (byteAt m (tagAt + 2)) 0x4B && eqb (byteAt m (tagAt + 3)) 0x2E))
+-- there is no tag, or it is `M.K.`
+unfoldable pub tagged : Module → Bool
+tagged m =
+    ltb (m .layout .patterns) (m .layout .tag + 4)
+    || (eqb (byteAt (m .bytes) (m .layout .tag)) 0x4D
+    && (eqb (byteAt (m .bytes) (m .layout .tag + 1)) 0x2E
+    && (eqb (byteAt (m .bytes) (m .layout .tag + 2)) 0x4B
+    && eqb (byteAt (m .bytes) (m .layout .tag + 3)) 0x2E)))
 
--- song length 0 or above 128
-unfoldable pub badLength : List ℕ → Bool
-badLength m = eqb (songLength m) 0 || ltb 128 (songLength m)
+-- song length 0 or above 128, the number of table entries
+unfoldable pub badLength : Module → Bool
+badLength m = eqb (songLength m) 0 || ltb entries (songLength m)
 
 -- a table entry above 63
-unfoldable pub badEntry : List ℕ → ℕ → Bool
-badEntry m i = ltb 63 (entryOf m i)
+unfoldable pub badEntry : Module → ℕ → Bool
+badEntry m i = ltb lastPattern (entryOf m i)
 
 -- a volume above 64
-unfoldable pub badVolume : List ℕ → ℕ → Bool
-badVolume m k = ltb 64 (volumeOf m k)
+unfoldable pub badVolume : Module → ℕ → Bool
+badVolume m k = ltb loudest (headerVolume (m .bytes) k)
 
 -- repeat length above 1 and start + repeat length above length
-unfoldable pub badLoop : List ℕ → ℕ → Bool
-badLoop m k = ltb 1 (repeatOf m k) && ltb (lengthOf m k) (startOf m k + repeatOf m k)
+unfoldable pub badLoop : Module → ℕ → Bool
+badLoop m k = ltb 1 (loopLength (m .bytes) k) && ltb (sampleWords (m .bytes) k) (loopStart (m .bytes) k + loopLength (m .bytes) k)
 
 -- sample number: high nibble of b0, times 16, plus high nibble of b2
 abbrev pub numberAt : List ℕ → ℕ → ℕ
-numberAt m at = byteAt m at / 16 * 16 + byteAt m (at + 2) / 16
+numberAt xs at = byteAt xs at / 16 * 16 + byteAt xs (at + 2) / 16
 
 -- period: low nibble of b0, times 256, plus b1
 abbrev pub periodAt : List ℕ → ℕ → ℕ
-periodAt m at = byteAt m at % 16 * 256 + byteAt m (at + 1)
+periodAt xs at = byteAt xs at % 16 * 256 + byteAt xs (at + 1)
 
--- a cell's sample number above 31
-unfoldable pub badNumber : List ℕ → ℕ → Bool
-badNumber m at = ltb samples (numberAt m at)
-
--- a period neither 0 nor 113 to 856
-abbrev pub outside : ℕ → Bool
-outside p = not (eqb p 0) && (ltb p 113 || ltb 856 p)
+-- a cell's sample number above the last
+unfoldable pub badNumberAt : Module → ℕ → Bool
+badNumberAt m at = ltb (sampleCount m) (numberAt (m .bytes) at)
 
 -- a cell's period
-unfoldable pub badPeriod : List ℕ → ℕ → Bool
-badPeriod m at = outside (periodAt m at)
+unfoldable pub badPeriodAt : Module → ℕ → Bool
+badPeriodAt m at = badPeriod (periodAt (m .bytes) at)
 
 -- a bad cell
-unfoldable pub badAt : List ℕ → ℕ → Bool
-badAt m at = badNumber m at || badPeriod m at
+unfoldable pub badAt : Module → ℕ → Bool
+badAt m at = badNumberAt m at || badPeriodAt m at
 
--- cell i of all patterns, in file order
-abbrev pub cellPlace : ℕ → ℕ
-cellPlace i = patternsAt + 4 * i
-
-abbrev pub cellsOf : List ℕ → ℕ
-cellsOf m = 64 * channels * patternsOf m
-
-abbrev pub badCell : List ℕ → ℕ → Bool
-badCell m i = badAt m (cellPlace i)
+abbrev pub badCell : Module → ℕ → Bool
+badCell m i = badAt m (cellPlace (m .layout) i)
 
 -- the first bad cell of n
-abbrev pub firstCell : List ℕ → ℕ → ℕ
-firstCell m n = cellPlace (first (badCell m) n)
+abbrev pub firstCell : Module → ℕ → ℕ
+firstCell m n = cellPlace (m .layout) (first (badCell m) n)
 
 -- ---- the table
 -- 8 and 9: the first bad cell in file order counts, with 8 before 9 in one cell
-abbrev pub cellLines : List ℕ → ℕ → List Line
+unfoldable pub cellLines : Module → ℕ → List Line
 cellLines m n =
-    line 8 (some (badCell m) n && badNumber m (firstCell m n)) (firstCell m n)
+    line 8 (some (badCell m) n && badNumberAt m (firstCell m n)) (firstCell m n)
     ∷ line 9 (some (badCell m) n) (firstCell m n)
     ∷ []
 
-abbrev pub restLines : List ℕ → List Line
+unfoldable pub restLines : Module → List Line
 restLines m =
-    line 7 (ltb (length m) (sampleAt m samples)) (length m)
-    ∷ cellLines m (cellsOf m)
+    line 7 (ltb (length (m .bytes)) (samplePlace m (sampleCount m))) (length (m .bytes))
+    ∷ cellLines m (cellsIn (m .layout) (rows * patternsOf m))
 
-abbrev pub table : List ℕ → List Line
+abbrev pub table : Module → List Line
 table m =
-    line 1 (ltb (length m) patternsAt) (length m)
-    ∷ line 2 (not (tagged m)) tagAt
-    ∷ line 3 (badLength m) songAt
-    ∷ line 4 (some (badEntry m) entries) (tableAt + first (badEntry m) entries)
-    ∷ line 5 (some (badVolume m) samples) (volumeAt (first (badVolume m) samples))
-    ∷ line 6 (some (badLoop m) samples) (startAt (first (badLoop m) samples))
+    line 1 (ltb (length (m .bytes)) (m .layout .patterns)) (length (m .bytes))
+    ∷ line 2 (not (tagged m)) (m .layout .tag)
+    ∷ line 3 (badLength m) (m .layout .song)
+    ∷ line 4 (some (badEntry m) entries) (m .layout .table + first (badEntry m) entries)
+    ∷ line 5 (some (badVolume m) (sampleCount m)) (volumePlace (first (badVolume m) (sampleCount m)))
+    ∷ line 6 (some (badLoop m) (sampleCount m)) (loopStartPlace (first (badLoop m) (sampleCount m)))
     ∷ restLines m
 
 -- the smallest number wins
-unfoldable pub judged : List ℕ → Verdict
-judged m = refusing refused accepted (table m)
+unfoldable pub verdict : Module → Answer
+verdict m = refusing refused (accepted 0) (table m)
+
+-- whether any bytes are a module
+unfoldable pub judgeOf : List ℕ → Answer
+judgeOf bytes = verdict (moduleOf bytes)
 
 -- the line of a call that is lent a module: 1 to 9 come first
-abbrev pub moduleLine : List ℕ → Line
-moduleLine m = line (judged m .number) (not (eqb (judged m .number) 0)) (judged m .place)
+abbrev pub moduleLine : Module → Line
+moduleLine m = line (verdict m .number) (not (eqb (verdict m .number) 0)) (verdict m .place)

@@ -1,4 +1,4 @@
--- The samples: where each lies in the file, its end and its loop. A sample number is 1 to 31, and 0 is none.
+-- The samples: where each lies in the file, its end and its loop. A sample number counts from 1, and 0 is none.
 -- Assumes nothing.
 use Prim.Native.Nat.{ℕ, zero, suc, _+_, _-_, _*_, _≤_}
 use mathlib.Core.Path.{_≡_}
@@ -6,45 +6,46 @@ use mathlib.Core.Bool.{Bool, false, cond}
 use mathlib.Core.List.{List}
 use lib.Dec.{ltb}
 use lib.ListN.{take, drop}
-use Rattle.laws.specs.Each.{each}
-use Rattle.reader.specs.File.{samples, lengthOf, startOf, repeatOf, sampleAt}
+use Rattle.laws.specs.Ranges.{padded}
+use Rattle.reader.specs.File.{Module, sampleCount, sampleWords, loopStart, loopLength, samplePlace}
 use Rattle.reader.specs.declared.Extent.{Extent}
+use Rattle.common.specs.Limits.{sampleNumbers}
 
 -- looped if the repeat length is above 1
-abbrev pub loopedOf : List ℕ → ℕ → Bool
-loopedOf m k = ltb 1 (repeatOf m k)
+abbrev pub loopedOf : Module → ℕ → Bool
+loopedOf m k = ltb 1 (loopLength (m .bytes) k)
 
 -- its end is 2 × (start + repeat length) if looped, else 2 × length
-abbrev pub endOf : List ℕ → ℕ → ℕ
-endOf m k = cond (loopedOf m k) (2 * (startOf m k + repeatOf m k)) (2 * lengthOf m k)
+abbrev pub endOf : Module → ℕ → ℕ
+endOf m k = cond (loopedOf m k) (2 * (loopStart (m .bytes) k + loopLength (m .bytes) k)) (2 * sampleWords (m .bytes) k)
 
 -- the loop's first byte, 0 where there is no loop
-abbrev pub firstOf : List ℕ → ℕ → ℕ
-firstOf m k = cond (loopedOf m k) (2 * startOf m k) 0
+abbrev pub firstOf : Module → ℕ → ℕ
+firstOf m k = cond (loopedOf m k) (2 * loopStart (m .bytes) k) 0
 
-abbrev pub none : Extent
-none = record { from = 0; to = 0; end = 0; looped = false; first = 0 }
+abbrev pub noExtent : Extent
+noExtent = record { from = 0; to = 0; end = 0; looped = false; first = 0 }
 
 -- the bytes of sample number k lie from `from` up to `to`; its end and loop count from its first byte
-unfoldable pub extentOf : List ℕ → ℕ → Extent
-extentOf m zero = none
+unfoldable pub extentOf : Module → ℕ → Extent
+extentOf m zero = noExtent
 extentOf m (suc k) =
     record {
-      from = sampleAt m k;
-      to = sampleAt m k + 2 * lengthOf m k;
+      from = samplePlace m k;
+      to = samplePlace m k + 2 * sampleWords (m .bytes) k;
       end = endOf m k;
       looped = loopedOf m k;
       first = firstOf m k;
     }
 
 -- sample number k + 1, which is at most 65,535 words long
-pub record Placed (m : List ℕ) (k : ℕ) (x : Extent) : Type 0 where
+pub record Placed (m : Module) (k : ℕ) (x : Extent) : Type 0 where
   pub is : x ≡ extentOf m (suc k)
   pub short : x .to ≤ x .from + 131070
 
--- all of them, by sample number
-abbrev pub extentsOf : List ℕ → List Extent
-extentsOf m = each (extentOf m) (samples + 1)
+-- a table of them by sample number has as many entries for every layout
+abbrev pub extentsOf : Module → List Extent
+extentsOf m = padded (extentOf m) noExtent (sampleCount m + 1) sampleNumbers
 
 -- ---- what a voice is given: the bytes of one sample, as a part of the file, its end and its loop
 pub record Sample : Type 0 where
@@ -53,9 +54,9 @@ pub record Sample : Type 0 where
   pub looped : Bool
   pub first : ℕ
 
-abbrev pub sampleIn : List ℕ → Extent → Sample
+abbrev pub sampleIn : Module → Extent → Sample
 sampleIn m x =
-    record { bytes = take (x .to - x .from) (drop (x .from) m); end = x .end; looped = x .looped; first = x .first }
+    record { bytes = take (x .to - x .from) (drop (x .from) (m .bytes)); end = x .end; looped = x .looped; first = x .first }
 
-unfoldable pub sampleOf : List ℕ → ℕ → Sample
+unfoldable pub sampleOf : Module → ℕ → Sample
 sampleOf m k = sampleIn m (extentOf m k)

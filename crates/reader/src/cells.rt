@@ -1,53 +1,74 @@
 // The cells of all patterns: refusals 8 and 9.
 ghost use mathlib.Core.Path.{_≡_};
-ghost use Prim.Native.Nat.{_+_, _*_, _≤_, _<_};
+ghost use Prim.Native.Nat.{_+_, _*_, _/_, _%_, _≤_, _<_};
 ghost use lib.ListN.{length};
-ghost use Rattle.laws.specs.Search.{some, first};
-ghost use Rattle.reader.specs.File.{patternsAt};
-ghost use Rattle.reader.specs.Judge.{badNumber, badAt, badCell};
+ghost use Rattle.common.specs.Limits.{greatestCellPeriod};
+ghost use Rattle.laws.specs.Ranges.{some, first};
+ghost use Rattle.reader.specs.Layouts.{LegalLayout};
+ghost use Rattle.reader.specs.File.{lent};
+ghost use Rattle.reader.specs.Judge.{badAt, badCell, badNumberAt};
+use crate::Layout;
+use crate::offsets::CELL_BYTES;
+use common::limits::GREATEST_CELL_PERIOD;
+use common::limits::LEAST_CELL_PERIOD;
 
-// Whether the cell's sample number is above 31. The first byte alone decides that.
-pub fn is_bad_number(file: &[u8], at: usize) -> bool
+// Whether the cell's sample number is above the last. The first byte alone decides that.
+pub fn is_bad_number(layout: Layout, file: &[u8], at: usize) -> bool
+    requires { ⌜ LegalLayout layout ⌝ }
     requires { ⌜ at + 3 < length (now file) ⌝ }
-    ensures { λ r. ⌜ r ≡ badNumber (now (file .entry)) at ⌝ }
+    ensures { λ r. ⌜ r ≡ badNumberAt (lent layout (now (file .entry))) at ⌝ }
 {
-    file[at] > 31
+    common::bytes::wide(file[at]) > layout.samples
 }
 
-// A number above 31 has a bit of the first byte's upper three set, which a period in 0 to 856 has not.
-fn is_bad(file: &[u8], at: usize) -> bool
-    requires { ⌜ at + 3 < length (now file) ⌝ }
-    ensures { λ r. ⌜ r ≡ badAt (now (file .entry)) at ⌝ }
+// The period, with a bit of the first byte's upper ones set where the sample number is above the last. Which bits these are is
+// the layout's, so the test is made once for all cells.
+fn seen(layout: Layout, both: u32) -> u32
+    requires { ⌜ LegalLayout layout ⌝ }
+    requires { ⌜ both < 65536 ⌝ }
+    ensures { λ r. ⌜ (layout .samples < both / 256 → greatestCellPeriod < r) × (both / 256 ≤ layout .samples → r ≡ both % 4096) ⌝ }
 {
-    let both = crate::bytes::pair(file[at], file[at + 1]);
-    let seen = both % 4096 + both / 8192 * 8192;
-    (seen != 0) & ((seen < 113) | (seen > 856))
+    if layout.samples < 16 {
+        return both;
+    }
+    both % 4096 + both / 8192 * 8192
+}
+
+fn is_bad(layout: Layout, file: &[u8], at: usize) -> bool
+    requires { ⌜ LegalLayout layout ⌝ }
+    requires { ⌜ at + 3 < length (now file) ⌝ }
+    ensures { λ r. ⌜ r ≡ badAt (lent layout (now (file .entry))) at ⌝ }
+{
+    let x = seen(layout, common::bytes::pair(file[at], file[at + 1]));
+    (x != 0) & ((x < LEAST_CELL_PERIOD) | (x > GREATEST_CELL_PERIOD))
 }
 
 // Whether one of the first n cells is bad: no cell's test decides whether the next is read.
-pub fn some_bad(file: &[u8], n: usize) -> bool
-    requires { ⌜ patternsAt + 4 * n ≤ length (now file) ⌝ }
-    ensures { λ r. ⌜ r ≡ some (badCell (now (file .entry))) n ⌝ }
+pub fn some_bad(layout: Layout, file: &[u8], n: usize) -> bool
+    requires { ⌜ LegalLayout layout ⌝ }
+    requires { ⌜ layout .patterns + 4 * n ≤ length (now file) ⌝ }
+    ensures { λ r. ⌜ r ≡ some (badCell (lent layout (now (file .entry)))) n ⌝ }
 {
     let mut bad = false;
     let mut i = 0;
     while i < n {
-        let at = crate::PATTERNS_AT + 4 * i;
-        bad = bad | is_bad(file, at);
+        let at = layout.patterns + CELL_BYTES * i;
+        bad = bad | is_bad(layout, file, at);
         i += 1;
     }
     bad
 }
 
 // The first bad cell of the first n, or n.
-pub fn first_bad(file: &[u8], n: usize) -> usize
-    requires { ⌜ patternsAt + 4 * n ≤ length (now file) ⌝ }
-    ensures { λ r. ⌜ r ≡ first (badCell (now (file .entry))) n ⌝ }
+pub fn first_bad(layout: Layout, file: &[u8], n: usize) -> usize
+    requires { ⌜ LegalLayout layout ⌝ }
+    requires { ⌜ layout .patterns + 4 * n ≤ length (now file) ⌝ }
+    ensures { λ r. ⌜ r ≡ first (badCell (lent layout (now (file .entry)))) n ⌝ }
 {
     let mut i = 0;
     while i < n {
-        let at = crate::PATTERNS_AT + 4 * i;
-        if is_bad(file, at) {
+        let at = layout.patterns + CELL_BYTES * i;
+        if is_bad(layout, file, at) {
             return i;
         }
         i += 1;

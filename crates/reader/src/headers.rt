@@ -2,49 +2,72 @@
 ghost use mathlib.Core.Path.{_≡_};
 ghost use Prim.Native.Nat.{_+_, _*_, _≤_, _<_, max};
 ghost use lib.ListN.{length};
-ghost use Rattle.laws.specs.Search.{first, largest};
-ghost use Rattle.reader.specs.File.{samples, entries, entryOf, patternsAt, patternsOf};
+ghost use Rattle.laws.specs.Ranges.{first, largest};
+ghost use Rattle.reader.specs.Layouts.{LegalLayout};
+ghost use Rattle.reader.specs.File.{lent, entries, entryOf, patternsOf};
 ghost use Rattle.reader.specs.Judge.{tagged, badLength, badEntry, badVolume, badLoop};
+use crate::Layout;
+use crate::offsets::ENTRIES;
+use crate::offsets::HEADER_BYTES;
+use crate::offsets::HEADERS_AT;
+use crate::offsets::LAST_PATTERN;
+use crate::offsets::LENGTH_AT;
+use crate::offsets::LOOP_LENGTH_AT;
+use crate::offsets::LOOP_START_AT;
+use crate::offsets::VOLUME_AT;
+use common::limits::LOUDEST;
 
-pub fn is_tagged(file: &[u8]) -> bool
-    requires { ⌜ patternsAt ≤ length (now file) ⌝ }
-    ensures { λ r. ⌜ r ≡ tagged (now (file .entry)) ⌝ }
-{
-    if file[crate::TAG_AT] != b'M' {
-        return false;
-    }
-    if file[crate::TAG_AT + 1] != b'.' {
-        return false;
-    }
-    if file[crate::TAG_AT + 2] != b'K' {
-        return false;
-    }
-    file[crate::TAG_AT + 3] == b'.'
-}
+const LOUDEST_BYTE: u8 = LOUDEST as u8;
 
-pub fn is_bad_length(file: &[u8]) -> bool
-    requires { ⌜ patternsAt ≤ length (now file) ⌝ }
-    ensures { λ r. ⌜ r ≡ badLength (now (file .entry)) ⌝ }
+const MOST_POSITIONS: u8 = ENTRIES as u8;
+
+pub fn is_tagged(layout: Layout, file: &[u8]) -> bool
+    requires { ⌜ LegalLayout layout ⌝ }
+    requires { ⌜ layout .patterns ≤ length (now file) ⌝ }
+    ensures { λ r. ⌜ r ≡ tagged (lent layout (now (file .entry))) ⌝ }
 {
-    if file[crate::SONG_AT] == 0 {
+    if layout.patterns < layout.tag + 4 {
         return true;
     }
-    file[crate::SONG_AT] > 128
+    let at = layout.tag;
+    if file[at] != b'M' {
+        return false;
+    }
+    if file[at + 1] != b'.' {
+        return false;
+    }
+    if file[at + 2] != b'K' {
+        return false;
+    }
+    file[at + 3] == b'.'
+}
+
+pub fn is_bad_length(layout: Layout, file: &[u8]) -> bool
+    requires { ⌜ LegalLayout layout ⌝ }
+    requires { ⌜ layout .patterns ≤ length (now file) ⌝ }
+    ensures { λ r. ⌜ r ≡ badLength (lent layout (now (file .entry))) ⌝ }
+{
+    let at = layout.song;
+    if file[at] == 0 {
+        return true;
+    }
+    file[at] > MOST_POSITIONS
 }
 
 // The first table entry above 63, or 128.
-pub fn first_bad_entry(file: &[u8]) -> usize
-    requires { ⌜ patternsAt ≤ length (now file) ⌝ }
-    ensures { λ r. ⌜ r ≡ first (badEntry (now (file .entry))) entries ⌝ }
+pub fn first_bad_entry(layout: Layout, file: &[u8]) -> usize
+    requires { ⌜ LegalLayout layout ⌝ }
+    requires { ⌜ layout .patterns ≤ length (now file) ⌝ }
+    ensures { λ r. ⌜ r ≡ first (badEntry (lent layout (now (file .entry)))) entries ⌝ }
 {
     let mut i = 0;
-    while i < crate::ENTRIES {
-        if file[crate::TABLE_AT + i] > 63 {
+    while i < ENTRIES {
+        if file[layout.table + i] > LAST_PATTERN {
             return i;
         }
         i += 1;
     }
-    crate::ENTRIES
+    ENTRIES
 }
 
 fn larger(a: u8, b: u8) -> u8
@@ -53,65 +76,71 @@ fn larger(a: u8, b: u8) -> u8
     if a < b { b } else { a }
 }
 
-fn largest_entry(file: &[u8]) -> u8
-    requires { ⌜ patternsAt ≤ length (now file) ⌝ }
-    ensures { λ r. ⌜ r ≡ largest (entryOf (now (file .entry))) entries ⌝ }
+fn largest_entry(layout: Layout, file: &[u8]) -> u8
+    requires { ⌜ LegalLayout layout ⌝ }
+    requires { ⌜ layout .patterns ≤ length (now file) ⌝ }
+    ensures { λ r. ⌜ r ≡ largest (entryOf (lent layout (now (file .entry)))) entries ⌝ }
 {
     let mut top: u8 = 0;
     let mut i = 0;
-    while i < crate::ENTRIES {
-        top = larger(top, file[crate::TABLE_AT + i]);
+    while i < ENTRIES {
+        top = larger(top, file[layout.table + i]);
         i += 1;
     }
     top
 }
 
 // One more than the largest of all entries, played or not.
-pub fn pattern_count(file: &[u8]) -> usize
-    requires { ⌜ patternsAt ≤ length (now file) ⌝ }
-    ensures { λ r. ⌜ (r ≡ patternsOf (now (file .entry))) × (r < 257) ⌝ }
+pub fn pattern_count(layout: Layout, file: &[u8]) -> usize
+    requires { ⌜ LegalLayout layout ⌝ }
+    requires { ⌜ layout .patterns ≤ length (now file) ⌝ }
+    ensures { λ r. ⌜ (r ≡ patternsOf (lent layout (now (file .entry)))) × (r < 257) ⌝ }
 {
-    crate::bytes::wide(largest_entry(file)) + 1
+    common::bytes::wide(largest_entry(layout, file)) + 1
 }
 
-// The first header whose volume is above 64, or 31.
-pub fn first_bad_volume(file: &[u8]) -> usize
-    requires { ⌜ patternsAt ≤ length (now file) ⌝ }
-    ensures { λ r. ⌜ r ≡ first (badVolume (now (file .entry))) samples ⌝ }
+// The first header whose volume is above 64, or their number.
+pub fn first_bad_volume(layout: Layout, file: &[u8]) -> usize
+    requires { ⌜ LegalLayout layout ⌝ }
+    requires { ⌜ layout .patterns ≤ length (now file) ⌝ }
+    ensures { λ r. ⌜ r ≡ first (badVolume (lent layout (now (file .entry)))) (layout .samples) ⌝ }
 {
     let mut k = 0;
-    while k < crate::SAMPLES {
-        if file[crate::HEADERS_AT + crate::HEADER_BYTES * k + 25] > 64 {
+    while k < layout.samples {
+        if file[HEADERS_AT + HEADER_BYTES * k + VOLUME_AT] > LOUDEST_BYTE {
             return k;
         }
         k += 1;
     }
-    crate::SAMPLES
+    layout.samples
 }
 
-fn is_bad_loop(file: &[u8], k: usize) -> bool
-    requires { ⌜ (patternsAt ≤ length (now file)) × (k < samples) ⌝ }
-    ensures { λ r. ⌜ r ≡ badLoop (now (file .entry)) k ⌝ }
+fn is_bad_loop(layout: Layout, file: &[u8], k: usize) -> bool
+    requires { ⌜ LegalLayout layout ⌝ }
+    requires { ⌜ (layout .patterns ≤ length (now file)) × (k < layout .samples) ⌝ }
+    ensures { λ r. ⌜ r ≡ badLoop (lent layout (now (file .entry))) k ⌝ }
 {
-    let header = crate::HEADERS_AT + crate::HEADER_BYTES * k;
-    let again = crate::bytes::word(file, header + 28);
+    let header = HEADERS_AT + HEADER_BYTES * k;
+    let again = common::bytes::word(file, header + LOOP_LENGTH_AT);
     if again < 2 {
         return false;
     }
-    crate::bytes::word(file, header + 26) + again > crate::bytes::word(file, header + 22)
+    common::bytes::word(file, header + LOOP_START_AT) + again
+        > common::bytes::word(file, header + LENGTH_AT)
 }
 
-// The first header whose loop leaves its sample, or 31.
-pub fn first_bad_loop(file: &[u8]) -> usize
-    requires { ⌜ patternsAt ≤ length (now file) ⌝ }
-    ensures { λ r. ⌜ r ≡ first (badLoop (now (file .entry))) samples ⌝ }
+// The first header whose loop leaves its sample, or their number.
+pub fn first_bad_loop(layout: Layout, file: &[u8]) -> usize
+    requires { ⌜ LegalLayout layout ⌝ }
+    requires { ⌜ layout .patterns ≤ length (now file) ⌝ }
+    ensures { λ r. ⌜ r ≡ first (badLoop (lent layout (now (file .entry)))) (layout .samples) ⌝ }
 {
     let mut k = 0;
-    while k < crate::SAMPLES {
-        if is_bad_loop(file, k) {
+    while k < layout.samples {
+        if is_bad_loop(layout, file, k) {
             return k;
         }
         k += 1;
     }
-    crate::SAMPLES
+    layout.samples
 }

@@ -1,19 +1,28 @@
 // What the sequencer reads of a file: the song length, a cell, a sample's header volume.
 ghost use mathlib.Core.Path.{_≡_};
 ghost use Prim.Native.Nat.{_+_, _-_, _<_, _^_};
-ghost use Rattle.reader.specs.File.{songLength, volumeOf};
-ghost use Rattle.reader.specs.Judge.{judged};
+ghost use Rattle.reader.specs.File.{lent, songLength, headerVolume};
+ghost use Rattle.reader.specs.Judge.{verdict};
+ghost use Rattle.common.specs.Bytes.{Bytes};
 ghost use Rattle.reader.specs.Cells.{effectOf, cellFrom, cellAt};
-ghost use Rattle.reader.specs.Accept.{Bytes};
+ghost use Rattle.reader.specs.Layouts.{LegalLayout};
 use crate::Cell;
+use crate::Layout;
+use crate::offsets::CELL_BYTES;
+use crate::offsets::HEADER_BYTES;
+use crate::offsets::HEADERS_AT;
+use crate::offsets::VOLUME_AT;
+use common::limits::ROWS;
 
 // The song length; and that the file's elements are bytes, which a caller's proof may need.
-pub fn song_length(file: &[u8]) -> u32
-    requires { ⌜ judged (now file) .number ≡ 0 ⌝ }
-    ensures { λ r. ⌜ r ≡ songLength (now (file .entry)) ⌝ }
+pub fn song_length(layout: Layout, file: &[u8]) -> u32
+    requires { ⌜ LegalLayout layout ⌝ }
+    requires { ⌜ verdict (lent layout (now file)) .number ≡ 0 ⌝ }
+    ensures { λ r. ⌜ r ≡ songLength (lent layout (now (file .entry))) ⌝ }
     ensures { λ _. ⌜ Bytes (now (file .entry)) ⌝ }
 {
-    crate::bytes::wide32(file[crate::SONG_AT])
+    let at = layout.song;
+    common::bytes::wide32(file[at])
 }
 
 fn effect_code(b2: u32, b3: u32) -> u32
@@ -28,10 +37,10 @@ fn cell_from(file: &[u8], at: usize) -> Cell
     requires { ⌜ at + 3 < 2 ^ 63 ⌝ }
     ensures { λ r. ⌜ r ≡ cellFrom (now (file .entry)) at ⌝ }
 {
-    let b0 = crate::bytes::byte(file, at);
-    let b1 = crate::bytes::byte(file, at + 1);
-    let b2 = crate::bytes::byte(file, at + 2);
-    let b3 = crate::bytes::byte(file, at + 3);
+    let b0 = common::bytes::byte(file, at);
+    let b1 = common::bytes::byte(file, at + 1);
+    let b2 = common::bytes::byte(file, at + 2);
+    let b3 = common::bytes::byte(file, at + 3);
     Cell {
         sample: b0 / 16 * 16 + b2 / 16,
         period: b0 % 16 * 256 + b1,
@@ -41,24 +50,24 @@ fn cell_from(file: &[u8], at: usize) -> Cell
 }
 
 // The cell of a position, row and channel, each from 0.
-pub fn cell_at(file: &[u8], position: u32, row: u32, channel: u32) -> Cell
-    ensures { λ r. ⌜ r ≡ cellAt (now (file .entry)) position row channel ⌝ }
+pub fn cell_at(layout: Layout, file: &[u8], position: u32, row: u32, channel: u32) -> Cell
+    requires { ⌜ LegalLayout layout ⌝ }
+    ensures { λ r. ⌜ r ≡ cellAt (lent layout (now (file .entry))) position row channel ⌝ }
 {
-    let entry = crate::bytes::byte(file, crate::TABLE_AT + position as usize) as usize;
-    let at = crate::PATTERNS_AT
-        + crate::PATTERN_BYTES * entry
-        + crate::ROW_BYTES * row as usize
-        + 4 * channel as usize;
+    let entry = common::bytes::byte(file, layout.table + position as usize);
+    let row = ROWS * entry as usize + row as usize;
+    let at = layout.patterns
+        + CELL_BYTES * (crate::offsets::cells_in(layout, row) + channel as usize);
     cell_from(file, at)
 }
 
 // The volume of the header of sample number k, from 1.
 pub fn header_volume(file: &[u8], k: u32) -> u32
     requires { ⌜ 0 < k ⌝ }
-    ensures { λ r. ⌜ r ≡ volumeOf (now (file .entry)) (k - 1) ⌝ }
+    ensures { λ r. ⌜ r ≡ headerVolume (now (file .entry)) (k - 1) ⌝ }
 {
-    crate::bytes::byte(
+    common::bytes::byte(
         file,
-        crate::HEADERS_AT + crate::HEADER_BYTES * (k - 1) as usize + 25,
+        HEADERS_AT + HEADER_BYTES * (k - 1) as usize + VOLUME_AT,
     )
 }

@@ -1,157 +1,153 @@
--- What is known of the ticks that a stream decodes to: its records read to them, they are as many as it says, and each is legal after the one before.
--- Assumes nothing.
-use Prim.Native.Nat.{ℕ, zero, suc, _+_, _/_, _%_, _≤_}
-use mathlib.Core.Path.{_≡_, refl, ap}
-use mathlib.Core.Bool.{Bool, true, false, not, cond, _&&_, _||_}
-use mathlib.Core.List.{List, [], _∷_}
+-- What is known of the ticks that a stream decodes to (`stream-of`): its records read to them, and each is legal after the one before; and of a
+-- single record that is read (`record-legal`). Assumes nothing.
+use Prim.Native.Nat.{ℕ, zero, suc, _+_, _-_, _/_, _%_, _≤_, _<_}
+use mathlib.Core.Path.{_≡_, refl, sym, ap, _∙_}
+use mathlib.Core.Bool.{Bool, true, false, not, _&&_}
+use mathlib.Core.List.{List, [], _∷_, _++_}
 use native.Mathlib.Omega.{arith}
-use lib.ListN.{length, getD}
+use lib.ListN.{length, getD, take, drop, length-take, List·getD-append}
+use lib.Seq.{length-front, getD-take, getD-drop, getD-append-add}
 use lib.Dec.{leb, ltb, eqb}
-use borrow.Author.Tests.{ltb-false}
+use borrow.Author.Tests.{ltb-true, ltb-false}
 use Rattle.laws.specs.Tests.{or-parts}
-use Rattle.laws.specs.Every.{second-of}
-use Rattle.laws.specs.BigEndian.{fourAt}
-use Rattle.laws.specs.Refusals.{refusing}
+use Rattle.laws.specs.Choice.{either}
+use Rattle.laws.specs.Every.{all-at, second-of}
+use Rattle.common.specs.Limits.{leastTempo, greatestTempo, between}
+use Rattle.common.specs.Bytes.{byteAt, fourAt}
+use Rattle.laws.specs.Ranges.{all}
+use Rattle.common.specs.LimitFacts.{between-has}
+use Rattle.common.specs.AnswerLaws.{refusing-has}
+use Rattle.ticks.specs.Commands.{nothing, soundingOf}
 use Rattle.ticks.specs.declared.Command.{Command}
 use Rattle.ticks.specs.declared.Tick.{Tick}
-use Rattle.ticks.specs.Legal.{leastTempo, greatestTempo, between-has, silent, LegalCommand}
-use Rattle.records.specs.Legal.{legal, legalTempo, CommandsAfter, LegalAfter, AllLegalAfter, legal-has}
-use Rattle.records.specs.Format.{countPlace, recordsPlace, silence, atFirst, Read, bad, read, held, commandAt, bodyAt, channelAt, withCommand, afterChannel, channelsAt, withTempo, recordAt, Decoded, refusal, ticks, withTick, afterRecord, decodeRecords, decodeAfter, decode}
-
--- ---- a channel keeps a legal register
--- each channel's register, held, is legal
-abbrev Registers : List Command → Type 0
-Registers [] = Unit
-Registers (r ∷ rs) = LegalCommand (r .sample) (held r) × Registers rs
-
-registers-at-first : (n : ℕ) → Registers (silence n)
-unfolding silence held
-registers-at-first zero = tt
-registers-at-first (suc n) =
-    (record { sample = omega arith; volume = omega arith; period = silent; offset = omega arith; stays = λ s. refl; plain = λ s. refl }, registers-at-first n)
-
-held-legal : (n : ℕ) (c : Command) → LegalCommand n c → LegalCommand (c .sample) (held c)
-unfolding held
-held-legal n c l = record { sample = l .sample; volume = l .volume; period = l .period; offset = omega arith; stays = λ s. refl; plain = λ s. refl }
-
-registers-after : (rs cs : List Command) → CommandsAfter rs cs → Registers cs
-registers-after [] [] l = tt
-registers-after [] (c ∷ cs) l = absurd l
-registers-after (r ∷ rs) [] l = absurd l
-registers-after (r ∷ rs) (c ∷ cs) l = (held-legal (r .sample) c (l .0), registers-after rs cs (l .1))
+use Rattle.ticks.specs.Legal.{LegalCommand, LegalTick, length-sounding, getD-sounding, LegalTicks, none, more}
+use Rattle.records.specs.Legal.{Unused, legalBeside}
+use Rattle.records.specs.LegalLaws.{beside-has}
+use Rattle.records.specs.Registers.{Beside, nothing-legal, Holding, first-at, first-holding, take-holding, tick-holding}
+use Rattle.records.specs.Reads.{on-good, not-read, passed, not-ticks, with-ticks}
+use Rattle.records.specs.Format.{versionPlace, countPlace, recordsPlace, headBytes, tempoPlace, bodyBytes, startPlace, atFirst, Read, bad, read, readOn, held, spelled, readBody, readChannel, readChannels, readTick, readRecord, Decoded, refusal, ticks, withTick, decodeRecords, decodeAfter, decode}
 
 -- ---- what is read is legal
-body-legal : (s : List ℕ) (at : ℕ) (r c : Command) (n : ℕ) → bodyAt s at r ≡ read c n → LegalCommand (r .sample) c
-unfolding bodyAt
-body-legal s at r c n e = go (leb (at + 6) (length s) && (leb (getD s (at + 4) 0) 1 && legal r (commandAt s at))) refl e
+body-legal : (last : ℕ) (s : List ℕ) (at : ℕ) (r c : Command) (n : ℕ) → readBody last s at r ≡ read c n → LegalCommand last (r .sample) c
+unfolding readBody
+body-legal last s at r c n e =
+    let tests : List Bool = leb (at + bodyBytes) (length s) ∷ leb (byteAt s (at + startPlace)) 1 ∷ legalBeside last (r .sample) (spelled s at) ∷ [] in
+    let p = passed (all tests) (read (spelled s at) (at + bodyBytes)) bad (read c n) (not-read c n) e in
+    let q : read (spelled s at) (at + bodyBytes) ≡ read c n = p .1 in
+    let same : spelled s at ≡ c = cc in
+    rw same at (beside-has last (r .sample) (spelled s at) (all-at tests (p .0) 2))
+
+channel-legal : (last : ℕ) (s : List ℕ) (at : ℕ) (r c : Command) (m n : ℕ) → LegalCommand last (r .sample) (held r) → readChannel last s at r m ≡ read c n → LegalCommand last (r .sample) c
+unfolding readChannel
+channel-legal last s at r c m n l =
+    either (λ (x : Read Command). x ≡ read c n → LegalCommand last (r .sample) c) (eqb (m % 2) 0) (read (held r) at) (readBody last s at r)
+    (λ z e.
+    let same : held r ≡ c = cc in
+    rw same at l)
+    (λ z e. body-legal last s at r c n e)
+
+-- as many commands as registers, each legal beside its own
+record Channels (last : ℕ) (rs cs : List Command) : Type 0 where
+  pub long : length cs ≡ length rs
+  pub beside : Beside last rs cs
+
+channels-none : (last : ℕ) (cs : List Command) → cs ≡ [] → Channels last [] cs
+channels-none last cs e = record { long = rw e; beside = λ i h. absurd (omega arith) }
+
+channels-more : (last : ℕ) (r : Command) (rs cs : List Command) (c : Command) (ds : List Command) → cs ≡ c ∷ ds → LegalCommand last (r .sample) c → Channels last rs ds → Channels last (r ∷ rs) cs
+channels-more last r rs cs c ds e l b = record { long = rw e (ap suc (b .long)); beside = λ i h. rw e (go i h) }
   where
-    go : (b : Bool) → leb (at + 6) (length s) && (leb (getD s (at + 4) 0) 1 && legal r (commandAt s at)) ≡ b
-        → cond b (read (commandAt s at) (at + 6)) bad ≡ read c n → LegalCommand (r .sample) c
-    go true h q =
-        let k = second-of (leb (at + 6) (length s)) (leb (getD s (at + 4) 0) 1 && legal r (commandAt s at)) h in
-        let l = second-of (leb (getD s (at + 4) 0) 1) (legal r (commandAt s at)) k in
-        let same : commandAt s at ≡ c = cc in
-        rw same at (legal-has r (commandAt s at) l)
-    go false h q = let z : _≡_ {A = ℕ} 0 1 = cc in absurd (omega arith)
+    go : (i : ℕ) → i < suc (length rs) → LegalCommand last (getD (r ∷ rs) i nothing .sample) (getD (c ∷ ds) i nothing)
+    go zero h = l
+    go (suc i) h = b .beside i (omega arith)
 
-channel-legal : (s : List ℕ) (at : ℕ) (r c : Command) (m n : ℕ) → LegalCommand (r .sample) (held r) → channelAt s at r m ≡ read c n → LegalCommand (r .sample) c
-unfolding channelAt
-channel-legal s at r c m n l e = go (eqb (m % 2) 0) e
-  where
-    go : (b : Bool) → cond b (read (held r) at) (bodyAt s at r) ≡ read c n → LegalCommand (r .sample) c
-    go true q =
-        let same : held r ≡ c = cc in
-        rw same at l
-    go false q = body-legal s at r c n q
+channels-legal : (last : ℕ) (s : List ℕ) (rs cs : List Command) (at m n : ℕ) → Holding last rs → readChannels last s at rs m ≡ read cs n → Channels last rs cs
+unfolding readChannels
+channels-legal last s [] cs at m n l e =
+    let q = passed (eqb m 0) (read [] at) bad (read cs n) (not-read cs n) e .1 in
+    let same : cs ≡ [] = cc in
+    channels-none last cs same
+channels-legal last s (r ∷ rs) cs at m n l e =
+    let a = on-good bad (readChannel last s at r m) (λ c p. readOn bad (readChannels last s p rs (m / 2)) (λ ds k. read (c ∷ ds) k)) (read cs n) (not-read cs n) e in
+    let b = on-good bad (readChannels last s (a .next) rs (m / 2)) (λ ds k. read (a .got ∷ ds) k) (read cs n) (not-read cs n) (a .on) in
+    let q : read (a .got ∷ b .got) (b .next) ≡ read cs n = b .on in
+    let same : cs ≡ a .got ∷ b .got = cc in
+    channels-more last r rs cs (a .got) (b .got) same (channel-legal last s at r (a .got) m (a .next) (l 0) (a .is)) (channels-legal last s rs (b .got) (a .next) (m / 2) (b .next) (λ i. l (suc i)) (b .is))
 
-channels-legal : (s : List ℕ) (rs cs : List Command) (at m n : ℕ) → Registers rs → channelsAt s rs at m ≡ read cs n → CommandsAfter rs cs
-unfolding channelsAt withCommand
-channels-legal s [] cs at m n l e = go (eqb m 0) e
-  where
-    go : (b : Bool) → cond b (read [] at) bad ≡ read cs n → CommandsAfter [] cs
-    go true q =
-        let same : cs ≡ [] = cc in
-        rw same tt
-    go false q = let z : _≡_ {A = ℕ} 0 1 = cc in absurd (omega arith)
-channels-legal s (r ∷ rs) cs at m n l e = go (channelAt s at r m) refl (λ k ds j y. channels-legal s rs ds k (m / 2) j (l .1) y) e
-  where
-    after : (c : Command) (y : Read (List Command)) → LegalCommand (r .sample) c → ((ds : List Command) (k : ℕ) → y ≡ read ds k → CommandsAfter rs ds)
-        → withCommand c y ≡ read cs n → CommandsAfter (r ∷ rs) cs
-    after c bad h ih q = let z : _≡_ {A = ℕ} 0 1 = cc in absurd (omega arith)
-    after c (read ds k) h ih q =
-        let same : cs ≡ c ∷ ds = cc in
-        rw same (h, ih ds k refl)
+-- ---- a record, of which the first c channels are read
+module _ (last c : ℕ) (rs cs : List Command) (b : Channels last (take c rs) cs) (u : Unused c rs) where
+  others-unused : Unused c (cs ++ drop c rs)
+  others-unused i h =
+      let k : ℕ = i - length cs in
+      let e : i ≡ length cs + k = omega (arith, b .long, length-take c rs) in
+      rw (e, getD-append-add cs (drop c rs) k nothing, getD-drop c rs k nothing) (u (c + k) (omega arith))
 
-    go : (x : Read Command) → channelAt s at r m ≡ x → ((k : ℕ) (ds : List Command) (j : ℕ) → channelsAt s rs k (m / 2) ≡ read ds j → CommandsAfter rs ds)
-        → afterChannel x (λ k. channelsAt s rs k (m / 2)) ≡ read cs n → CommandsAfter (r ∷ rs) cs
-    go bad p ih q = let z : _≡_ {A = ℕ} 0 1 = cc in absurd (omega arith)
-    go (read c k) p ih q = after c (channelsAt s rs k (m / 2)) (channel-legal s at r c m k (l .0) p) (ih k) q
+  all-legal : (i : ℕ) → i < length rs → LegalCommand last (getD rs i nothing .sample) (getD (cs ++ drop c rs) i nothing)
+  all-legal i h = go (ltb i c) refl
+    where
+      go : (t : Bool) → ltb i c ≡ t → LegalCommand last (getD rs i nothing .sample) (getD (cs ++ drop c rs) i nothing)
+      go true e =
+          let k : i < c = ltb-true i c e in
+          let l : i < length (take c rs) = omega (arith, length-take c rs) in
+          rw (List·getD-append cs (drop c rs) nothing i (omega (arith, b .long)), ← getD-take c rs i nothing k) (b .beside i l)
+      go false e = rw (u i (ltb-false i c e), others-unused i (ltb-false i c e)) (nothing-legal last)
 
-record-legal : (registers : List Command) (s : List ℕ) (at : ℕ) (t : Tick) (n : ℕ) → Registers registers → recordAt registers s at ≡ read t n → LegalAfter registers t
-unfolding recordAt withTempo
-record-legal registers s at t n l e = go (leb (at + 2) (length s) && legalTempo (getD s (at + 1) 0)) refl e
-  where
-    tempo : ℕ
-    tempo = getD s (at + 1) 0
+-- a good record's tick: legal after the registers, and nothing is told the channels that are not in use
+pub record GoodTick (last c : ℕ) (registers : List Command) (t : Tick) : Type 0 where
+  pub legal : LegalTick last (soundingOf registers) t
+  pub unused : Unused c (t .commands)
 
-    with-tempo : (x : Read (List Command)) → channelsAt s registers (at + 2) (getD s at 0) ≡ x → legalTempo tempo ≡ true → withTempo tempo x ≡ read t n → LegalAfter registers t
-    with-tempo bad p h q = let z : _≡_ {A = ℕ} 0 1 = cc in absurd (omega arith)
-    with-tempo (read cs k) p h q =
-        let same : t ≡ record { tempo = tempo; commands = cs } = cc in
-        rw same (record { tempo = between-has leastTempo greatestTempo tempo h; commands = channels-legal s registers cs (at + 2) (getD s at 0) k l p })
+pub record-legal : (last c : ℕ) (s : List ℕ) (at : ℕ) (registers : List Command) (t : Tick) (n : ℕ) → Holding last registers → Unused c registers → readRecord last c s at registers ≡ read t n → GoodTick last c registers t
+unfolding readRecord
+record-legal last c s at registers t n l u e =
+    let tempo : ℕ = byteAt s (at + tempoPlace) in
+    let x : Read (List Command) = readChannels last s (at + headBytes) (take c registers) (byteAt s at) in
+    let test : Bool = leb (at + headBytes) (length s) && between leastTempo greatestTempo tempo in
+    let p = passed test (readOn bad x (readTick c registers tempo)) bad (read t n) (not-read t n) e in
+    let a = on-good bad x (readTick c registers tempo) (read t n) (not-read t n) (p .1) in
+    let b = channels-legal last s (take c registers) (a .got) (at + headBytes) (byteAt s at) (a .next) (take-holding last c registers l) (a .is) in
+    let q : readTick c registers tempo (a .got) (a .next) ≡ read t n = a .on in
+    let same : t ≡ record { tempo = tempo; commands = a .got ++ drop c registers } = cc in
+    rw same
+    (record {
+      legal =
+          record {
+            tempo = between-has leastTempo greatestTempo tempo (second-of (leb (at + headBytes) (length s)) (between leastTempo greatestTempo tempo) (p .0));
+            long = length-front registers (a .got) c (b .long) ∙ sym (length-sounding registers);
+            commands = λ i h. rw (getD-sounding registers i) (all-legal last c registers (a .got) b u i (rw (length-sounding registers) at h));
+          };
+      unused = others-unused last c registers (a .got) b u;
+    })
 
-    go : (b : Bool) → leb (at + 2) (length s) && legalTempo tempo ≡ b → cond b (withTempo tempo (channelsAt s registers (at + 2) (getD s at 0))) bad ≡ read t n → LegalAfter registers t
-    go true h q = with-tempo (channelsAt s registers (at + 2) (getD s at 0)) refl (second-of (leb (at + 2) (length s)) (legalTempo tempo) h) q
-    go false h q = let z : _≡_ {A = ℕ} 0 1 = cc in absurd (omega arith)
-
--- ---- what n records are, where they are good
--- the ticks of n records: as many, and legal after one another
-pub record Ticks (n : ℕ) (registers : List Command) (ts : List Tick) : Type 0 where
-  pub count : length ts ≡ n
-  pub legal : AllLegalAfter registers ts
-
-records-ticks : (s : List ℕ) (n : ℕ) (registers : List Command) (at : ℕ) (ts : List Tick) → Registers registers → decodeRecords s n registers at ≡ ticks ts → Ticks n registers ts
-unfolding decodeRecords withTick
-records-ticks s zero registers at ts l e = go (eqb at (length s)) e
-  where
-    go : (b : Bool) → cond b (ticks []) (refusal 23 at) ≡ ticks ts → Ticks 0 registers ts
-    go true q =
-        let same : ts ≡ [] = cc in
-        rw same (record { count = refl; legal = tt })
-    go false q = let z : _≡_ {A = ℕ} 0 1 = cc in absurd (omega arith)
-records-ticks s (suc n) registers at ts l e = go (recordAt registers s at) refl (λ t p us h q. records-ticks s n (t .commands) p us h q) e
-  where
-    after : (t : Tick) (y : Decoded) → LegalAfter registers t → ((us : List Tick) → y ≡ ticks us → Ticks n (t .commands) us) → withTick t y ≡ ticks ts → Ticks (suc n) registers ts
-    after t (refusal a b) h ih q = let z : _≡_ {A = ℕ} 0 1 = cc in absurd (omega arith)
-    after t (ticks us) h ih q =
-        let same : ts ≡ t ∷ us = cc in
-        rw same (record { count = ap suc (ih us refl .count); legal = (h, ih us refl .legal) })
-
-    go : (x : Read Tick) → recordAt registers s at ≡ x
-        → ((t : Tick) (p : ℕ) (us : List Tick) → Registers (t .commands) → decodeRecords s n (t .commands) p ≡ ticks us → Ticks n (t .commands) us)
-        → afterRecord at x (λ t p. decodeRecords s n (t .commands) p) ≡ ticks ts → Ticks (suc n) registers ts
-    go bad p ih q = let z : _≡_ {A = ℕ} 0 1 = cc in absurd (omega arith)
-    go (read t k) p ih q =
-        let h = record-legal registers s at t k l p in
-        after t (decodeRecords s n (t .commands) k) h (λ us. ih t k us (registers-after registers (t .commands) (h .commands))) q
+-- ---- the records
+records-legal : (last c : ℕ) (s : List ℕ) (n at : ℕ) (registers : List Command) (ts : List Tick) → Holding last registers → Unused c registers → decodeRecords last c s n at registers ≡ ticks ts → LegalTicks last (soundingOf registers) ts
+unfolding decodeRecords
+records-legal last c s zero at registers ts l u e =
+    let q = passed (eqb at (length s)) (ticks []) (refusal 23 at) (ticks ts) (not-ticks 23 at ts) e .1 in
+    let same : ts ≡ [] = cc in
+    rw same none
+records-legal last c s (suc n) at registers ts l u e =
+    let a = on-good (refusal 23 at) (readRecord last c s at registers) (λ t p. withTick t (decodeRecords last c s n p (t .commands))) (ticks ts) (not-ticks 23 at ts) e in
+    let t : Tick = a .got in
+    let f = with-ticks t (decodeRecords last c s n (a .next) (t .commands)) ts (a .on) in
+    let g = record-legal last c s at registers t (a .next) l u (a .is) in
+    rw (f .all) (more (g .legal) (records-legal last c s n (a .next) (t .commands) (f .others) (tick-holding last (soundingOf registers) t (g .legal)) (g .unused) (f .is)))
 
 -- ---- the whole stream
--- a stream of ticks ts: it has a header, and its records read to ts
-pub record StreamOf (s : List ℕ) (ts : List Tick) : Type 0 where
+-- a stream of ticks ts: it has a header, its records read to ts, and these are legal
+pub record StreamOf (last c : ℕ) (s : List ℕ) (ts : List Tick) : Type 0 where
   pub long : recordsPlace ≤ length s
-  pub reads : decodeRecords s (fourAt s countPlace) atFirst recordsPlace ≡ ticks ts
-  pub its : Ticks (fourAt s countPlace) atFirst ts
+  pub reads : decodeRecords last c s (fourAt s countPlace) recordsPlace atFirst ≡ ticks ts
+  pub legal : LegalTicks last (soundingOf atFirst) ts
 
-pub stream-of : (s : List ℕ) (ts : List Tick) → decode s ≡ ticks ts → StreamOf s ts
-unfolding decodeAfter refusing
-stream-of s ts e = first (ltb (length s) 9 || not (eqb (length s) (4 + fourAt s 0))) refl e
-  where
-    second : (b : Bool) → 9 ≤ length s → cond b (refusal 22 4) (decodeRecords s (fourAt s 5) atFirst 9) ≡ ticks ts → StreamOf s ts
-    second true h q = let z : _≡_ {A = ℕ} 0 1 = cc in absurd (omega arith)
-    second false h q = record { long = h; reads = q; its = records-ticks s (fourAt s 5) atFirst 9 ts (registers-at-first 4) q }
-
-    first : (b : Bool) → ltb (length s) 9 || not (eqb (length s) (4 + fourAt s 0)) ≡ b
-        → cond b (refusal 21 (length s)) (cond (not (eqb (getD s 4 0) 1)) (refusal 22 4) (decodeRecords s (fourAt s 5) atFirst 9)) ≡ ticks ts → StreamOf s ts
-    first true h q = let z : _≡_ {A = ℕ} 0 1 = cc in absurd (omega arith)
-    first false h q =
-        second (not (eqb (getD s 4 0) 1)) (ltb-false (length s) 9 (or-parts (ltb (length s) 9) (not (eqb (length s) (4 + fourAt s 0))) h .0)) q
+pub stream-of : (last c : ℕ) (s : List ℕ) (ts : List Tick) → decode last c s ≡ ticks ts → StreamOf last c s ts
+unfolding decodeAfter
+stream-of last c s ts =
+    refusing-has (λ (d : Decoded). d ≡ ticks ts → StreamOf last c s ts) refusal (decodeRecords last c s (fourAt s countPlace) recordsPlace atFirst) _
+    (λ number place e. absurd (not-ticks number place ts e))
+    (λ p e.
+    record {
+      long = ltb-false (length s) recordsPlace (or-parts (ltb (length s) recordsPlace) (not (eqb (length s) (versionPlace + fourAt s 0))) (p 0) .0);
+      reads = e;
+      legal = records-legal last c s (fourAt s countPlace) recordsPlace atFirst ts (first-holding last) (λ i h. first-at i) e;
+    })

@@ -1,27 +1,24 @@
--- The tick stream: the bytes that are written for ticks, and the ticks that are read from bytes. Over any number of channels:
--- registers and commands are lists, and the registers are the commands of the tick before. Assumes nothing.
-use Prim.Native.Nat.{ℕ, zero, suc, _+_, _*_, _/_, _%_}
-use mathlib.Core.Bool.{Bool, true, false, not, cond, _&&_, _||_}
+-- The tick stream: the bytes that are written for ticks, and the ticks that are read from bytes. Registers and commands are lists, of which the
+-- first c are in use: the others are never written, and stay as they are. The registers are the commands of the tick before.
+-- Version, number of channels and the last sample number are arguments. Assumes nothing.
+use Prim.Native.Nat.{ℕ, zero, suc, _+_, _-_, _*_, _/_, _%_}
+use mathlib.Core.Bool.{Bool, false, not, cond, _&&_, _||_}
 use mathlib.Core.List.{List, [], _∷_, _++_}
-use lib.ListN.{length, getD}
+use lib.ListN.{length, take, drop, replicate}
 use lib.Dec.{leb, ltb, eqb}
-use Rattle.laws.specs.BigEndian.{fourBytes, fourAt}
-use Rattle.laws.specs.Refusals.{line, refusing}
+use Rattle.laws.specs.Ranges.{all}
+use Rattle.ticks.specs.Commands.{nothing}
+use Rattle.common.specs.Limits.{width, leastTempo, greatestTempo, between}
+use Rattle.common.specs.Bytes.{byteAt, wordAt, fourAt, fourBytes, bit}
+use Rattle.common.specs.Answers.{line, refusing}
 use Rattle.ticks.specs.declared.Command.{Command}
 use Rattle.ticks.specs.declared.Tick.{Tick}
-use Rattle.ticks.specs.Legal.{nothing}
-use Rattle.records.specs.Legal.{legal, legalTempo}
+use Rattle.records.specs.Legal.{legalBeside}
 
--- ---- the layout
-abbrev pub channels : ℕ
-channels = 4
-
--- the version byte's place and value
+-- ---- places and sizes
+-- the version byte's place, where the bytes that the first number counts begin
 abbrev pub versionPlace : ℕ
 versionPlace = 4
-
-abbrev pub version : ℕ
-version = 1
 
 -- the tick count's place
 abbrev pub countPlace : ℕ
@@ -35,29 +32,37 @@ recordsPlace = 9
 abbrev pub headBytes : ℕ
 headBytes = 2
 
+-- the tempo's place in a record
+abbrev pub tempoPlace : ℕ
+tempoPlace = 1
+
 -- a set bit's numbers
 abbrev pub bodyBytes : ℕ
 bodyBytes = 6
 
--- the registers of n channels at first: 0
-unfoldable pub silence : ℕ → List Command
-silence zero = []
-silence (suc n) = nothing ∷ silence n
+-- the start's place in them
+abbrev pub startPlace : ℕ
+startPlace = 4
 
-abbrev pub atFirst : List Command
-atFirst = silence channels
+-- ---- versions
+-- the version that is written
+abbrev pub version : ℕ
+version = 1
+
+-- the versions that are read
+unfoldable pub knownVersion : ℕ → Bool
+knownVersion v = eqb v 1
 
 -- ---- the writer
+-- the registers at first: 0
+unfoldable pub atFirst : List Command
+atFirst = replicate width nothing
+
 -- a bit is set exactly if sample, volume or sounded period differs from the tick before or the voice starts
 unfoldable pub changed : Command → Command → Bool
 changed r c =
     not (eqb (c .sample) (r .sample))
     || (not (eqb (c .volume) (r .volume)) || (not (eqb (c .period) (r .period)) || c .start))
-
--- yes is 1, no is 0
-abbrev pub bit : Bool → ℕ
-bit true = 1
-bit false = 0
 
 -- a mask: bit 0 is channel 1
 unfoldable pub mask : List Command → List Command → ℕ
@@ -80,78 +85,82 @@ channelsBytes (r ∷ rs) [] = []
 channelsBytes (r ∷ rs) (c ∷ cs) = channelBytes r c ++ channelsBytes rs cs
 
 -- a mask, the tempo, then for each set bit its numbers
-unfoldable pub recordBytes : List Command → Tick → List ℕ
-recordBytes registers t = mask registers (t .commands) ∷ t .tempo ∷ channelsBytes registers (t .commands)
+unfoldable pub recordBytes : ℕ → List Command → Tick → List ℕ
+recordBytes c registers t = mask (take c registers) (t .commands) ∷ t .tempo ∷ channelsBytes (take c registers) (t .commands)
 
-unfoldable pub records : List Command → List Tick → List ℕ
-records registers [] = []
-records registers (t ∷ ts) = recordBytes registers t ++ records (t .commands) ts
+-- the records, each after the tick before
+unfoldable pub records : ℕ → List Command → List Tick → List ℕ
+records c registers [] = []
+records c registers (t ∷ ts) = recordBytes c registers t ++ records c (t .commands) ts
 
--- four bytes: count of bytes that follow. Version 1. Four bytes: tick count N
-unfoldable pub header : ℕ → ℕ → List ℕ
-header follow n = fourBytes follow ++ (version ∷ fourBytes n)
+-- four bytes: count of bytes that follow. Version. Four bytes: tick count N
+unfoldable pub streamHeader : ℕ → ℕ → ℕ → List ℕ
+streamHeader v follow n = fourBytes follow ++ (v ∷ fourBytes n)
 
--- the header and N records; what follows is the version's byte, the tick count's four and the records
-unfoldable pub encodeAfter : List Command → List Tick → List ℕ
-encodeAfter registers ts = header (1 + 4 + length (records registers ts)) (length ts) ++ records registers ts
+-- the header and N records
+unfoldable pub encodeAfter : ℕ → ℕ → List Command → List Tick → List ℕ
+encodeAfter v c registers ts = streamHeader v (recordsPlace - versionPlace + length (records c registers ts)) (length ts) ++ records c registers ts
 
-abbrev pub encode : List Tick → List ℕ
-encode ts = encodeAfter atFirst ts
+-- from the registers at first
+abbrev pub encode : ℕ → ℕ → List Tick → List ℕ
+encode v c ts = encodeAfter v c atFirst ts
 
--- ---- the reader
--- what was read and the position after it, or nothing good
+-- ---- the decoder
+-- what was read and the place after it, or nothing good
 pub data Read (A : Type 0) : Type 0 where
   bad : Read A
   read : A → ℕ → Read A
+
+-- reading on: what comes after a good reading, or else instead
+unfoldable pub readOn : {A B : Type 0} → B → Read A → (A → ℕ → B) → B
+readOn instead bad rest = instead
+readOn instead (read x n) rest = rest x n
+
+-- where a bad reading stays bad
+abbrev pub andThen : {A B : Type 0} → Read A → (A → ℕ → Read B) → Read B
+andThen r rest = readOn bad r rest
 
 -- the command of a channel whose bit is not set
 unfoldable pub held : Command → Command
 held r = record { sample = r .sample; volume = r .volume; period = r .period; start = false; offset = 0 }
 
--- the command that six bytes spell
-unfoldable pub commandAt : List ℕ → ℕ → Command
-commandAt s at =
+-- the command that six bytes spell: sample, volume, period (two bytes), start, offset
+unfoldable pub spelled : List ℕ → ℕ → Command
+spelled s at =
     record {
-      sample = getD s at 0;
-      volume = getD s (at + 1) 0;
-      period = getD s (at + 2) 0 * 256 + getD s (at + 3) 0;
-      start = eqb (getD s (at + 4) 0) 1;
-      offset = getD s (at + 5) 0;
+      sample = byteAt s at;
+      volume = byteAt s (at + 1);
+      period = wordAt s (at + 2);
+      start = eqb (byteAt s (at + startPlace)) 1;
+      offset = byteAt s (at + 5);
     }
 
--- the command of a set bit, beside its register: six bytes stand there, start is 0 or 1, and the command is legal
-unfoldable pub bodyAt : List ℕ → ℕ → Command → Read Command
-bodyAt s at r =
-    cond (leb (at + bodyBytes) (length s) && (leb (getD s (at + 4) 0) 1 && legal r (commandAt s at)))
-    (read (commandAt s at) (at + bodyBytes))
+-- the command of a set bit, beside its register: it does not run out, start is 0 or 1, and the command is legal
+unfoldable pub readBody : ℕ → List ℕ → ℕ → Command → Read Command
+readBody last s at r =
+    cond (all (leb (at + bodyBytes) (length s) ∷ leb (byteAt s (at + startPlace)) 1 ∷ legalBeside last (r .sample) (spelled s at) ∷ []))
+    (read (spelled s at) (at + bodyBytes))
     bad
 
 -- the command of a channel whose bit is the lowest of m
-unfoldable pub channelAt : List ℕ → ℕ → Command → ℕ → Read Command
-channelAt s at r m = cond (eqb (m % 2) 0) (read (held r) at) (bodyAt s at r)
+unfoldable pub readChannel : ℕ → List ℕ → ℕ → Command → ℕ → Read Command
+readChannel last s at r m = cond (eqb (m % 2) 0) (read (held r) at) (readBody last s at r)
 
-unfoldable pub withCommand : Command → Read (List Command) → Read (List Command)
-withCommand c bad = bad
-withCommand c (read cs n) = read (c ∷ cs) n
+-- the commands of as many channels as there are registers, by the mask m, which has no further bit
+unfoldable pub readChannels : ℕ → List ℕ → ℕ → List Command → ℕ → Read (List Command)
+readChannels last s at [] m = cond (eqb m 0) (read [] at) bad
+readChannels last s at (r ∷ rs) m =
+    andThen (readChannel last s at r m) (λ c p. andThen (readChannels last s p rs (m / 2)) (λ cs n. read (c ∷ cs) n))
 
-abbrev pub afterChannel : Read Command → (ℕ → Read (List Command)) → Read (List Command)
-afterChannel bad rest = bad
-afterChannel (read c n) rest = withCommand c (rest n)
+-- a record's tick: its tempo, and the commands that were read before the registers of the channels that are not in use
+abbrev pub readTick : ℕ → List Command → ℕ → List Command → ℕ → Read Tick
+readTick c registers tempo cs n = read (record { tempo = tempo; commands = cs ++ drop c registers }) n
 
--- the commands of all channels by the mask m, which has no further bit
-unfoldable pub channelsAt : List ℕ → List Command → ℕ → ℕ → Read (List Command)
-channelsAt s [] at m = cond (eqb m 0) (read [] at) bad
-channelsAt s (r ∷ rs) at m = afterChannel (channelAt s at r m) (λ n. channelsAt s rs n (m / 2))
-
-unfoldable pub withTempo : ℕ → Read (List Command) → Read Tick
-withTempo tempo bad = bad
-withTempo tempo (read cs n) = read (record { tempo = tempo; commands = cs }) n
-
--- the record at a position: a record is bad if it runs out, a number leaves its legal range, or a sample changes or an offset isn't 0 without a start
-unfoldable pub recordAt : List Command → List ℕ → ℕ → Read Tick
-recordAt registers s at =
-    cond (leb (at + headBytes) (length s) && legalTempo (getD s (at + 1) 0))
-    (withTempo (getD s (at + 1) 0) (channelsAt s registers (at + headBytes) (getD s at 0)))
+-- a record is bad if it runs out, a number leaves its legal range, or a sample changes or an offset isn't 0 without a start
+unfoldable pub readRecord : ℕ → ℕ → List ℕ → ℕ → List Command → Read Tick
+readRecord last c s at registers =
+    cond (leb (at + headBytes) (length s) && between leastTempo greatestTempo (byteAt s (at + tempoPlace)))
+    (andThen (readChannels last s (at + headBytes) (take c registers) (byteAt s at)) (readTick c registers (byteAt s (at + tempoPlace))))
     bad
 
 -- a stream's ticks, or a refusal's number and place
@@ -159,27 +168,25 @@ pub data Decoded : Type 0 where
   refusal : ℕ → ℕ → Decoded
   ticks : List Tick → Decoded
 
+-- a tick before those that follow; a refusal stays
 unfoldable pub withTick : Tick → Decoded → Decoded
 withTick t (refusal number place) = refusal number place
 withTick t (ticks ts) = ticks (t ∷ ts)
 
-abbrev pub afterRecord : ℕ → Read Tick → (Tick → ℕ → Decoded) → Decoded
-afterRecord at bad rest = refusal 23 at
-afterRecord at (read t n) rest = withTick t (rest t n)
-
 -- 23: a bad record, or bytes left over; that record, or first byte left
-unfoldable pub decodeRecords : List ℕ → ℕ → List Command → ℕ → Decoded
-decodeRecords s zero registers at = cond (eqb at (length s)) (ticks []) (refusal 23 at)
-decodeRecords s (suc n) registers at =
-    afterRecord at (recordAt registers s at) (λ t p. decodeRecords s n (t .commands) p)
+unfoldable pub decodeRecords : ℕ → ℕ → List ℕ → ℕ → ℕ → List Command → Decoded
+decodeRecords last c s zero at registers = cond (eqb at (length s)) (ticks []) (refusal 23 at)
+decodeRecords last c s (suc n) at registers =
+    readOn (refusal 23 at) (readRecord last c s at registers) (λ t p. withTick t (decodeRecords last c s n p (t .commands)))
 
--- 21: stream under 9 bytes, or its length isn't 4 plus its first number; its length. 22: version byte isn't 1; 4
-unfoldable pub decodeAfter : List Command → List ℕ → Decoded
-decodeAfter registers s =
-    refusing refusal (decodeRecords s (fourAt s countPlace) registers recordsPlace)
-    (line 21 (ltb (length s) recordsPlace || not (eqb (length s) (4 + fourAt s 0))) (length s)
-    ∷ line 22 (not (eqb (getD s versionPlace 0) version)) versionPlace
+-- 21: stream under 9 bytes, or its length isn't 4 plus its first number; its length. 22: version byte isn't known; 4
+unfoldable pub decodeAfter : ℕ → ℕ → List Command → List ℕ → Decoded
+decodeAfter last c registers s =
+    refusing refusal (decodeRecords last c s (fourAt s countPlace) recordsPlace registers)
+    (line 21 (ltb (length s) recordsPlace || not (eqb (length s) (versionPlace + fourAt s 0))) (length s)
+    ∷ line 22 (not (knownVersion (byteAt s versionPlace))) versionPlace
     ∷ [])
 
-abbrev pub decode : List ℕ → Decoded
-decode s = decodeAfter atFirst s
+-- from the registers at first
+abbrev pub decode : ℕ → ℕ → List ℕ → Decoded
+decode last c s = decodeAfter last c atFirst s

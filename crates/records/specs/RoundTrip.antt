@@ -1,41 +1,44 @@
--- What is written is read back: `decode-encode`. And how long a stream is at most: `stream-most`.
+-- What is written is read back: `decode-encode`, for any number of channels and every known version.
 -- Assumes nothing.
-use Prim.Native.Nat.{ℕ, suc, _+_, _*_, _/_, _%_, _^_, _≤_, _<_}
+use Prim.Native.Nat.{ℕ, zero, suc, _+_, _-_, _*_, _/_, _%_, _^_, _≤_, _<_}
 use mathlib.Core.Path.{_≡_, refl, sym, ap, _∙_}
 use mathlib.Core.Bool.{Bool, true, false, not, cond, _||_, true≢false}
 use mathlib.Core.List.{List, [], _∷_, _++_, append-assoc}
 use native.Mathlib.Nat.{add-zero, add-assoc, div-add-mod'}
 use native.Mathlib.Omega.{arith}
-use lib.ListN.{length, getD, drop, length-drop, length-append}
+use lib.ListN.{length, take, drop, length-take, length-drop, length-append}
+use lib.Seq.{getD-take, ext-getD}
 use lib.Dec.{leb, eqb}
 use borrow.Author.Tests.{eq-eqb, ne-eqb, le-leb, le-ltb, eqb-true}
+use Rattle.laws.specs.Ranges.{all, allFrom}
+use Rattle.common.specs.LimitFacts.{between-by}
+use Rattle.common.specs.ByteLaws.{four-back, bit-back, bit-most}
+use Rattle.ticks.specs.Commands.{nothing, soundingOf}
 use Rattle.laws.specs.Positions.{at-offset, at-position, position-room, drop-past}
-use Rattle.laws.specs.BigEndian.{fourBytes, fourAt, fourAt-fourBytes}
-use Rattle.laws.specs.Refusals.{refusing}
+use Rattle.common.specs.Limits.{leastTempo, greatestTempo}
+use Rattle.common.specs.Bytes.{byteAt, wordAt, fourAt, fourBytes, bit}
+use Rattle.common.specs.Answers.{refusing}
 use Rattle.ticks.specs.declared.Command.{Command}
 use Rattle.ticks.specs.declared.Tick.{Tick}
-use Rattle.ticks.specs.Legal.{leastTempo, greatestTempo, between-by, LegalCommand}
-use Rattle.records.specs.Legal.{CommandsAfter, LegalAfter, AllLegalAfter, legal-length, legal-by}
-use Rattle.records.specs.Format.{recordsPlace, silence, atFirst, changed, bit, mask, commandBytes, channelBytes, channelsBytes, recordBytes, records, header, encodeAfter, encode, read, held, commandAt, bodyAt, channelAt, withCommand, channelsAt, withTempo, recordAt, ticks, withTick, decodeRecords, decodeAfter, decode}
+use Rattle.ticks.specs.Legal.{LegalCommand, LegalTick, length-sounding, getD-sounding, LegalTicks, more}
+use Rattle.records.specs.Legal.{Unused, AllUnused}
+use Rattle.records.specs.LegalLaws.{beside-by}
+use Rattle.records.specs.Registers.{first-at, Beside}
+use Rattle.records.specs.Length.{stream-length}
+use Rattle.records.specs.Format.{versionPlace, countPlace, recordsPlace, headBytes, tempoPlace, bodyBytes, startPlace, knownVersion, atFirst, changed, mask, commandBytes, channelBytes, channelsBytes, recordBytes, records, streamHeader, encodeAfter, encode, read, readOn, held, spelled, readBody, readChannel, readChannels, readRecord, ticks, withTick, decodeRecords, decodeAfter, decode}
 
 -- ---- a channel
-bit-back : (b : Bool) → eqb (bit b) 1 ≡ b
-bit-back true = refl
-bit-back false = refl
-
-bit-most : (b : Bool) → bit b ≤ 1
-bit-most true = omega arith
-bit-most false = omega arith
-
-command-back : (s : List ℕ) (at : ℕ) (c : Command) (rest : List ℕ) → drop at s ≡ commandBytes c ++ rest → commandAt s at ≡ c
-unfolding commandAt commandBytes
+command-back : (s : List ℕ) (at : ℕ) (c : Command) (rest : List ℕ) → drop at s ≡ commandBytes c ++ rest → spelled s at ≡ c
+unfolding spelled commandBytes
 command-back s at c rest e =
     let p = at-offset s at _ e in
+    let low : at + 2 + 1 ≡ at + 3 = omega arith in
+    let word : wordAt s (at + 2) ≡ c .period = rw (low, p 2, p 3) (div-add-mod' (c .period) 256) in
     λ i. record {
       sample = at-position s at _ e i;
       volume = p 1 i;
-      period = ((ap (λ (h : ℕ). h * 256 + getD s (at + 3) 0) (p 2) ∙ ap (λ (l : ℕ). c .period / 256 * 256 + l) (p 3)) ∙ div-add-mod' (c .period) 256) i;
-      start = (ap (λ (b : ℕ). eqb b 1) (p 4) ∙ bit-back (c .start)) i;
+      period = word i;
+      start = (ap (λ (b : ℕ). eqb b 1) (p startPlace) ∙ bit-back (c .start)) i;
       offset = p 5 i;
     }
 
@@ -47,9 +50,9 @@ same-all true true false d e = absurd (true≢false e)
 same-all true false c d e = absurd (true≢false e)
 same-all false b c d e = absurd (true≢false e)
 
-held-same : (r c : Command) → LegalCommand (r .sample) c → changed r c ≡ false → held r ≡ c
+held-same : (last : ℕ) (r c : Command) → LegalCommand last (r .sample) c → changed r c ≡ false → held r ≡ c
 unfolding changed held
-held-same r c l u =
+held-same last r c l u =
     let x = same-all (eqb (c .sample) (r .sample)) (eqb (c .volume) (r .volume)) (eqb (c .period) (r .period)) (c .start) u in
     λ i. record {
       sample = sym (eqb-true (c .sample) (r .sample) (x .0)) i;
@@ -63,102 +66,86 @@ held-same r c l u =
 abbrev bytesBy : Bool → Command → List ℕ
 bytesBy b c = cond b (commandBytes c) []
 
-channel-back : (s : List ℕ) (at : ℕ) (r c : Command) (m : ℕ) (rest : List ℕ) (b : Bool) → changed r c ≡ b → LegalCommand (r .sample) c
+channel-back : (last : ℕ) (s : List ℕ) (at : ℕ) (r c : Command) (m : ℕ) (rest : List ℕ) (b : Bool) → changed r c ≡ b → LegalCommand last (r .sample) c
     → drop at s ≡ bytesBy b c ++ rest
-    → channelAt s at r (bit b + 2 * m) ≡ read c (at + length (bytesBy b c))
-unfolding channelAt bodyAt commandBytes
-channel-back s at r c m rest true u l e =
+    → readChannel last s at r (bit b + 2 * m) ≡ read c (at + length (bytesBy b c))
+unfolding readChannel readBody commandBytes all allFrom
+channel-back last s at r c m rest true u l e =
     let odd : eqb ((1 + 2 * m) % 2) 0 ≡ false = ne-eqb ((1 + 2 * m) % 2) 0 (λ q. omega arith) in
-    let fits : leb (at + 6) (length s) ≡ true = le-leb (at + 6) (length s) (omega (arith, position-room s at (commandBytes c ++ rest) e (omega arith))) in
-    let flag : leb (getD s (at + 4) 0) 1 ≡ true = le-leb (getD s (at + 4) 0) 1 (omega (arith, at-offset s at (commandBytes c ++ rest) e 4, bit-most (c .start))) in
-    rw (odd, fits, flag, command-back s at c rest e, legal-by r c l)
-channel-back s at r c m rest false u l e =
+    let fits : leb (at + bodyBytes) (length s) ≡ true = le-leb (at + bodyBytes) (length s) (omega (arith, position-room s at (commandBytes c ++ rest) e (omega arith))) in
+    let flag : leb (byteAt s (at + startPlace)) 1 ≡ true = le-leb (byteAt s (at + startPlace)) 1 (omega (arith, at-offset s at (commandBytes c ++ rest) e startPlace, bit-most (c .start))) in
+    rw (odd, fits, flag, command-back s at c rest e, beside-by last (r .sample) c l)
+channel-back last s at r c m rest false u l e =
     let even : eqb ((0 + 2 * m) % 2) 0 ≡ true = eq-eqb ((0 + 2 * m) % 2) 0 (omega arith) in
-    rw (even, held-same r c l u, add-zero)
+    rw (even, held-same last r c l u, add-zero)
 
--- ---- a record, of any number of channels
+-- ---- all channels, of any number
 half : (b : Bool) (m : ℕ) → (bit b + 2 * m) / 2 ≡ m
 half true m = omega arith
 half false m = omega arith
 
-channels-back : (s rest : List ℕ) (rs cs : List Command) (at : ℕ) → CommandsAfter rs cs → drop at s ≡ channelsBytes rs cs ++ rest
-    → channelsAt s rs at (mask rs cs) ≡ read cs (at + length (channelsBytes rs cs))
-unfolding channelsAt mask channelsBytes channelBytes withCommand
-channels-back s rest [] [] at l e = rw add-zero
-channels-back s rest [] (c ∷ cs) at l e = absurd l
-channels-back s rest (r ∷ rs) [] at l e = absurd l
-channels-back s rest (r ∷ rs) (c ∷ cs) at l e =
+channels-back : (last : ℕ) (s rest : List ℕ) (rs cs : List Command) (at : ℕ) → length rs ≤ length cs → Beside last rs cs → drop at s ≡ channelsBytes rs cs ++ rest
+    → readChannels last s at rs (mask rs cs) ≡ read (take (length rs) cs) (at + length (channelsBytes rs cs))
+unfolding readChannels mask channelsBytes channelBytes readOn
+channels-back last s rest [] cs at h l e = rw add-zero
+channels-back last s rest (r ∷ rs) [] at h l e = absurd (omega arith)
+channels-back last s rest (r ∷ rs) (c ∷ cs) at h l e =
     let b = changed r c in
     let m = mask rs cs in
     let e′ : drop at s ≡ bytesBy b c ++ (channelsBytes rs cs ++ rest) = e ∙ append-assoc (bytesBy b c) (channelsBytes rs cs) rest in
-    let ih = channels-back s rest rs cs (at + length (bytesBy b c)) (l .1) (drop-past s at (bytesBy b c) (channelsBytes rs cs ++ rest) e′) in
-    rw (channel-back s at r c m (channelsBytes rs cs ++ rest) b refl (l .0) e′, half b m, ih, length-append, add-assoc)
+    let ih = channels-back last s rest rs cs (at + length (bytesBy b c)) (omega arith) (λ i k. l (suc i) (omega arith)) (drop-past s at (bytesBy b c) (channelsBytes rs cs ++ rest) e′) in
+    rw (channel-back last s at r c m (channelsBytes rs cs ++ rest) b refl (l 0 (omega arith)) e′, half b m, ih, length-append, add-assoc)
 
-record-back : (s rest : List ℕ) (registers : List Command) (t : Tick) (at : ℕ) → LegalAfter registers t → drop at s ≡ recordBytes registers t ++ rest
-    → recordAt registers s at ≡ read t (at + length (recordBytes registers t))
-unfolding recordAt recordBytes withTempo
-record-back s rest registers t at l e =
-    let bs : List ℕ = channelsBytes registers (t .commands) in
-    let fits : leb (at + 2) (length s) ≡ true = le-leb (at + 2) (length s) (omega (arith, position-room s at (recordBytes registers t ++ rest) e (omega arith))) in
-    let cs = channels-back s rest registers (t .commands) (at + 2) (l .commands) (drop-past s at (mask registers (t .commands) ∷ t .tempo ∷ []) (bs ++ rest) e) in
-    let n : at + 2 + length bs ≡ at + suc (suc (length bs)) = omega arith in
-    rw (fits, at-position s at (recordBytes registers t ++ rest) e, at-offset s at (recordBytes registers t ++ rest) e 1, between-by leastTempo greatestTempo (t .tempo) (l .tempo), cs, n)
+-- ---- a record
+-- the commands of the channels in use, and the registers of the others
+in-use : (c : ℕ) (rs cs : List Command) → length cs ≡ length rs → Unused c rs → Unused c cs → take (length (take c rs)) cs ++ drop c rs ≡ cs
+in-use zero rs cs e u w = ext-getD nothing rs cs (sym e) (λ i l. u i (omega arith) ∙ sym (w i (omega arith)))
+in-use (suc c) [] [] e u w = refl
+in-use (suc c) [] (d ∷ cs) e u w = absurd (omega arith)
+in-use (suc c) (r ∷ rs) [] e u w = absurd (omega arith)
+in-use (suc c) (r ∷ rs) (d ∷ cs) e u w = ap (λ (ds : List Command). d ∷ ds) (in-use c rs cs (omega arith) (λ i h. u (suc i) (omega arith)) (λ i h. w (suc i) (omega arith)))
+
+record-back : (last c : ℕ) (s rest : List ℕ) (registers : List Command) (t : Tick) (at : ℕ) → LegalTick last (soundingOf registers) t → Unused c registers → Unused c (t .commands) → drop at s ≡ recordBytes c registers t ++ rest
+    → readRecord last c s at registers ≡ read t (at + length (recordBytes c registers t))
+unfolding readRecord recordBytes readOn
+record-back last c s rest registers t at l u w e =
+    let rs : List Command = take c registers in
+    let bs : List ℕ = channelsBytes rs (t .commands) in
+    let long : length (t .commands) ≡ length registers = l .long ∙ length-sounding registers in
+    let fits : leb (at + headBytes) (length s) ≡ true = le-leb (at + headBytes) (length s) (omega (arith, position-room s at (recordBytes c registers t ++ rest) e (omega arith))) in
+    let legal : Beside last rs (t .commands) =
+    λ i h.
+    let k : i < c = omega (arith, length-take c registers) in
+    rw (getD-take c registers i nothing k, ← getD-sounding registers i) (l .commands i (omega (arith, length-take c registers, length-sounding registers))) in
+    let cs = channels-back last s rest rs (t .commands) (at + headBytes) (omega (arith, length-take c registers)) legal (drop-past s at (mask rs (t .commands) ∷ t .tempo ∷ []) (bs ++ rest) e) in
+    let n : at + headBytes + length bs ≡ at + suc (suc (length bs)) = omega arith in
+    rw (fits, at-position s at (recordBytes c registers t ++ rest) e, at-offset s at (recordBytes c registers t ++ rest) e tempoPlace, between-by leastTempo greatestTempo (t .tempo) (l .tempo), cs, n, in-use c registers (t .commands) long u w)
 
 -- ---- the records, and the whole stream
-records-back : (s : List ℕ) (ts : List Tick) (registers : List Command) (at : ℕ) → AllLegalAfter registers ts → at ≤ length s → drop at s ≡ records registers ts
-    → decodeRecords s (length ts) registers at ≡ ticks ts
-unfolding decodeRecords records withTick
-records-back s [] registers at l h e = rw (eq-eqb at (length s) (omega (arith, length-drop at s, ap length e)))
-records-back s (t ∷ ts) registers at l h e =
-    let r : List ℕ = recordBytes registers t in
-    let all = position-room s at (r ++ records (t .commands) ts) e (unfold recordBytes in omega arith) in
-    let ih = records-back s ts (t .commands) (at + length r) (l .1) (omega (arith, all, length-append r (records (t .commands) ts))) (drop-past s at r (records (t .commands) ts) e) in
-    rw (record-back s (records (t .commands) ts) registers t at (l .0) e, ih)
+records-back : (last c : ℕ) (s : List ℕ) (registers : List Command) (ts : List Tick) (at : ℕ) → LegalTicks last (soundingOf registers) ts → Unused c registers → AllUnused c ts → at ≤ length s → drop at s ≡ records c registers ts
+    → decodeRecords last c s (length ts) at registers ≡ ticks ts
+unfolding decodeRecords records withTick readOn
+records-back last c s registers [] at l u w h e = rw (eq-eqb at (length s) (omega (arith, length-drop at s, ap length e)))
+records-back last c s registers (t ∷ ts) at (more l ls) u w h e =
+    let r : List ℕ = recordBytes c registers t in
+    let all = position-room s at (r ++ records c (t .commands) ts) e (unfold recordBytes in omega arith) in
+    let ih = records-back last c s (t .commands) ts (at + length r) ls (w .0) (w .1) (omega (arith, all, length-append r (records c (t .commands) ts))) (drop-past s at r (records c (t .commands) ts) e) in
+    rw (record-back last c s (records c (t .commands) ts) registers t at l u (w .0) e, ih)
 
-pub stream-length : (registers : List Command) (ts : List Tick) → length (encodeAfter registers ts) ≡ recordsPlace + length (records registers ts)
-unfolding encodeAfter header fourBytes
-stream-length registers ts = omega arith
+module _ (last c v : ℕ) (known : knownVersion v ≡ true) where
+  pub decode-encode-after : (registers : List Command) (ts : List Tick) → Unused c registers → LegalTicks last (soundingOf registers) ts → AllUnused c ts → length ts < 2 ^ 32 → length (encodeAfter v c registers ts) < 2 ^ 32
+      → decodeAfter last c registers (encodeAfter v c registers ts) ≡ ticks ts
+  unfolding decodeAfter refusing encodeAfter streamHeader fourBytes
+  decode-encode-after registers ts u l w h k =
+      let s : List ℕ = encodeAfter v c registers ts in
+      let rs : List ℕ = records c registers ts in
+      let follow : ℕ = recordsPlace - versionPlace + length rs in
+      let long : length s ≡ recordsPlace + length rs = stream-length v c registers ts in
+      let first : fourAt s 0 ≡ follow = four-back s 0 follow (v ∷ (fourBytes (length ts) ++ rs)) (omega arith) refl in
+      let whole : length s ≡ versionPlace + fourAt s 0 = omega arith in
+      let count : fourAt s countPlace ≡ length ts = four-back s countPlace (length ts) rs h refl in
+      rw (le-ltb (length s) recordsPlace (omega arith), eq-eqb (length s) (versionPlace + fourAt s 0) whole, known, count, records-back last c s registers ts recordsPlace l u w (omega arith) refl)
 
-pub decode-encode-after : (registers : List Command) (ts : List Tick) → AllLegalAfter registers ts → length ts < 2 ^ 32 → length (encodeAfter registers ts) < 2 ^ 32
-    → decodeAfter registers (encodeAfter registers ts) ≡ ticks ts
-unfolding decodeAfter refusing encodeAfter header fourBytes
-decode-encode-after registers ts l h k =
-    let s : List ℕ = encodeAfter registers ts in
-    let rs : List ℕ = records registers ts in
-    let long : length s ≡ 9 + length rs = stream-length registers ts in
-    let first : fourAt s 0 ≡ 5 + length rs = fourAt-fourBytes s 0 (5 + length rs) (1 ∷ (fourBytes (length ts) ++ rs)) (omega arith) refl in
-    let whole : length s ≡ 4 + fourAt s 0 = omega arith in
-    let count : fourAt s 5 ≡ length ts = fourAt-fourBytes s 5 (length ts) rs h refl in
-    rw (le-ltb (length s) 9 (omega arith), eq-eqb (length s) (4 + fourAt s 0) whole, count, records-back s ts registers 9 l (omega arith) refl)
-
--- the ticks of a stream that was written for them
-pub decode-encode : (ts : List Tick) → AllLegalAfter atFirst ts → length ts < 2 ^ 32 → length (encode ts) < 2 ^ 32 → decode (encode ts) ≡ ticks ts
-decode-encode ts l h k = decode-encode-after atFirst ts l h k
-
--- ---- how long a stream is at most
-channel-most : (b : Bool) (c : Command) → length (bytesBy b c) ≤ 6
-unfolding commandBytes
-channel-most true c = omega arith
-channel-most false c = omega arith
-
-pub channelBytes-most : (r c : Command) → length (channelBytes r c) ≤ 6
-unfolding channelBytes
-channelBytes-most r c = channel-most (changed r c) c
-
-channels-most : (rs cs : List Command) → length (channelsBytes rs cs) ≤ 6 * length rs
-unfolding channelsBytes
-channels-most [] cs = omega arith
-channels-most (r ∷ rs) [] = omega arith
-channels-most (r ∷ rs) (c ∷ cs) =
-    omega (arith, length-append (channelBytes r c) (channelsBytes rs cs), channelBytes-most r c, channels-most rs cs)
-
-records-most : (k : ℕ) (ts : List Tick) (registers : List Command) → length registers ≡ k → AllLegalAfter registers ts → length (records registers ts) ≤ (2 + 6 * k) * length ts
-unfolding records recordBytes
-records-most k [] registers e l = omega arith
-records-most k (t ∷ ts) registers e l =
-    let ih = records-most k ts (t .commands) (legal-length registers (t .commands) (l .0 .commands) ∙ e) (l .1) in
-    omega (arith, length-append (channelsBytes registers (t .commands)) (records (t .commands) ts), channels-most registers (t .commands), ih)
-
-pub stream-most : (ts : List Tick) → AllLegalAfter atFirst ts → length (encode ts) ≤ recordsPlace + 26 * length ts
-unfolding silence
-stream-most ts l = omega (arith, stream-length atFirst ts, records-most 4 ts atFirst refl l)
+  -- the ticks of a stream that was written for them
+  pub decode-encode : (ts : List Tick) → LegalTicks last (soundingOf atFirst) ts → AllUnused c ts → length ts < 2 ^ 32 → length (encode v c ts) < 2 ^ 32 → decode last c (encode v c ts) ≡ ticks ts
+  decode-encode ts = decode-encode-after atFirst ts (λ i h. first-at i)

@@ -1,36 +1,45 @@
 -- What the functions of the song rest on: places and moves by their numbers, a row's few ticks, and the loops over the channels.
 -- Assumes nothing.
-use Prim.Native.Nat.{ℕ, zero, _+_, _*_, _≤_, _<_}
-use mathlib.Core.Path.{_≡_, sym, _∙_, ap}
-use mathlib.Core.Bool.{Bool, true, false}
+use Prim.Native.Nat.{ℕ, _+_, _*_, _^_, _≤_, _<_}
+use mathlib.Core.Path.{_≡_, refl, sym, _∙_, ap}
+use mathlib.Core.Bool.{true, false}
 use mathlib.Core.List.{List}
 use native.Mathlib.Omega.{arith}
 use native.Mathlib.Nat.{mul-le-mul}
 use native.Mathlib.Numerals.{add-one}
-use borrow.Author.Tests.{le-ltb}
+use borrow.Author.Tests.{lt-ltb, le-ltb, eq-eqb}
 use borrow.Author.Needs.{zero≤}
 use lib.Dec.{ltb}
-use lib.ListN.{length, getD, set}
-use Rattle.laws.specs.Each.{each-by, Filled, fill-begin, fill-again, fill-end}
-use Rattle.ticks.specs.Legal.{between, between-has, nothing, samplesOf, length-samples, getD-samples}
+use lib.ListN.{length, getD, set, replicate}
+use Rattle.laws.specs.Each.{each-by, Filled, fill-end, Parting, pad-begin, part-again, part-end}
+use Rattle.common.specs.Limits.{width}
+use Rattle.common.specs.Bytes.{Bytes}
+use Rattle.ticks.specs.Legal.{length-sounding, getD-sounding}
 use Rattle.ticks.specs.declared.Command.{Command}
-use Rattle.reader.specs.File.{songLength, channels}
-use Rattle.reader.specs.Judge.{judged}
-use Rattle.reader.specs.Accept.{Bytes, accepted-has}
+use Rattle.reader.specs.File.{Module, lent, songLength, channelCount}
+use Rattle.reader.specs.Judge.{verdict}
+use Rattle.reader.specs.Accept.{accepted-has}
+use Rattle.reader.specs.declared.Layout.{Layout}
 use Rattle.reader.specs.declared.Cell.{Cell}
+use Rattle.effects.specs.Legal.{freshChannel}
 use Rattle.effects.specs.declared.Channel.{Channel}
 use Rattle.effects.specs.declared.Voiced.{Voiced}
-use Rattle.sequencer.specs.Row.{cellOn, rowFlow, flowAt, flowOf}
-use Rattle.sequencer.specs.Songs.{silence, place, songWork, voicedOn, allVoiced}
-use Rattle.sequencer.specs.Legal.{leastSpeed, greatestSpeed, lastDelay, LegalTime, LegalSong}
+use Rattle.sequencer.specs.Row.{cellOn, rowFlow, flowFrom, flowThrough}
+use Rattle.sequencer.specs.Songs.{place, songBy, songWork, voicedOn, allVoiced, rowTicks, nextTick}
+use Rattle.sequencer.specs.Legal.{greatestSpeed, lastDelay}
 use Rattle.sequencer.specs.Kept.{work-kept}
+use Rattle.sequencer.specs.declared.Place.{Place}
+use Rattle.sequencer.specs.declared.Time.{Time}
 use Rattle.sequencer.specs.declared.Move.{Move}
 use Rattle.sequencer.specs.declared.Flow.{Flow}
 use Rattle.sequencer.specs.declared.Song.{Song}
+use Rattle.ticks.specs.Commands.{nothing, soundingOf}
+use Rattle.reader.specs.Layouts.{LegalLayout}
+use Rattle.sequencer.specs.LegalFacts.{LegalTime, LegalSong}
 
 -- ---- places and moves
-pub last-position : (size p : ℕ) → size ≤ p → ltb (p + 1) size ≡ false
-last-position size p l = le-ltb (p + 1) size (omega arith)
+pub last-position : (positions p : ℕ) → positions ≤ p → ltb (p + 1) positions ≡ false
+last-position positions p l = le-ltb (p + 1) positions (omega arith)
 
 pub same-place : (p q row : ℕ) → p ≡ q → place p row ≡ place q row
 same-place p q row e = rw e
@@ -41,61 +50,74 @@ moved position row = record { given = true; position = position; row = row }
 pub same-move : (p q r s : ℕ) → p ≡ q → r ≡ s → moved p r ≡ moved q s
 same-move p q r s e f = rw (e, f)
 
--- ---- a row has few ticks
-few : (s d : ℕ) → s ≤ greatestSpeed → d ≤ lastDelay → s * (1 + d) ≤ 496
-few s d a b = mul-le-mul {n₂ = 31} {m₂ = 16} a (omega arith)
+-- ---- a row's ticks
+-- of numbers that fit 32 bits, they fit 64
+pub row-wide : (s d : ℕ) → s < 2 ^ 32 → d < 2 ^ 32 → s * (1 + d) < 2 ^ 64
+row-wide s d a b = omega (arith, mul-le-mul {n₁ = s} {m₁ = 1 + d} {n₂ = 4294967295} {m₂ = 4294967296} (omega arith) (omega arith))
 
-pub few-ticks : (u s d : ℕ) → LegalTime u s d → s * (1 + d) ≤ 496
-few-ticks u s d h = few s d (h .speed .high) (h .delay)
+-- and of a legal song they are few
+pub few-ticks : (t : Time) → LegalTime t → t .tick < greatestSpeed * (1 + lastDelay)
+few-ticks t h = omega (arith, mul-le-mul {n₁ = t .speed} {m₁ = 1 + t .delay} {n₂ = greatestSpeed} {m₂ = 1 + lastDelay} (h .speed .high) (omega (arith, h .delay)), h .tick)
 
-pub few-tested : (s d : ℕ) (b : Bool) → b ≡ between leastSpeed greatestSpeed s → b ≡ true → d ≤ lastDelay → s * (1 + d) ≤ 496
-few-tested s d b e t h = few s d (between-has leastSpeed greatestSpeed s (sym e ∙ t) .high) h
+-- the next tick is in the row, or there is none
+pub next-on : (t : Time) (n : ℕ) → n ≡ rowTicks t → t .tick + 1 < n → t .tick + 1 ≡ nextTick t
+unfolding nextTick
+next-on t n e l = rw (lt-ltb (t .tick + 1) (rowTicks t) (rw e at l))
+
+pub next-over : (t : Time) (n : ℕ) → n ≡ rowTicks t → n ≤ t .tick + 1 → 0 ≡ nextTick t
+unfolding nextTick
+next-over t n e l = rw (le-ltb (t .tick + 1) (rowTicks t) (rw e at l))
 
 -- ---- the row's work, channel by channel
-pub record Flowed (m : List ℕ) (s : Song) (size : ℕ) (f : Flow) (i : ℕ) : Type 0 where
-  pub low : i ≤ channels
-  pub length : size ≡ songLength m
-  pub flow : f ≡ flowOf m s i
+pub record Flowed (m : Module) (at : Place) (f₀ : Flow) (positions : ℕ) (f : Flow) (i : ℕ) : Type 0 where
+  pub low : i ≤ channelCount m
+  pub length : positions ≡ songLength m
+  pub flow : f ≡ flowThrough m at f₀ i
 
-module _ (m : List ℕ) (s : Song) (size : ℕ) where
-  pub flow-begin : (f : Flow) → size ≡ songLength m → f ≡ flowAt size s → Flowed m s size f 0
-  unfolding flowOf
-  flow-begin f e q = record { low = zero≤; length = e; flow = q ∙ ap (λ (n : ℕ). flowAt n s) e }
+module _ (m : Module) (at : Place) (f₀ : Flow) (positions : ℕ) where
+  pub flow-begin : positions ≡ songLength m → Flowed m at f₀ positions f₀ 0
+  unfolding flowThrough
+  flow-begin e = record { low = zero≤; length = e; flow = refl }
 
-  pub flow-again : (f g : Flow) (c : Cell) (i : ℕ) → Flowed m s size f i → i < channels → c ≡ cellOn m (s .at) i → g ≡ rowFlow size (s .at .row) c f → Flowed m s size g (i + 1)
-  unfolding flowOf
+  pub flow-again : (f g : Flow) (c : Cell) (i : ℕ) → Flowed m at f₀ positions f i → i < channelCount m → c ≡ cellOn m at i → g ≡ rowFlow positions (at .row) c f → Flowed m at f₀ positions g (i + 1)
+  unfolding flowThrough
   flow-again f g c i w l e q = record { low = omega arith; length = w .length; flow = rw (add-one, ← e, ← w .flow, ← w .length) q }
 
-  pub flow-end : (f : Flow) (i : ℕ) → Flowed m s size f i → channels ≤ i → f ≡ flowOf m s channels
-  flow-end f i w l = w .flow ∙ ap (flowOf m s) (omega arith)
+  pub flow-end : (f : Flow) (i : ℕ) → Flowed m at f₀ positions f i → channelCount m ≤ i → f ≡ flowThrough m at f₀ (channelCount m)
+  flow-end f i w l = w .flow ∙ ap (flowThrough m at f₀) (omega (arith, w .low))
+
+-- at u = 0 the song is as the row's cells make it
+pub row-done : (l : Layout) (xs : List ℕ) (positions : ℕ) (s r : Song) (f g : Flow) → s .time .tick ≡ 0 → positions ≡ songLength (lent l xs) → f ≡ flowFrom positions (s .course) (s .time) → g ≡ flowThrough (lent l xs) (s .course .at) f (l .channels) → r ≡ songBy positions s g → r ≡ songWork (lent l xs) s
+unfolding songWork
+row-done l xs positions s r f g z p q h k = rw (eq-eqb (s .time .tick) 0 z, ← p, ← q, ← h) k
 
 -- ---- the channels' work, channel by channel
-pub record Voicing (m : List ℕ) (s : Song) (k : List ℕ) (chs : List Channel) (cmds : List Command) (i : ℕ) : Type 0 where
-  pub low : i ≤ channels
-  pub worked : Filled (λ j. voicedOn m s k j .channel) silence channels chs i
-  pub told : Filled (λ j. voicedOn m s k j .command) nothing channels cmds i
+pub record Voicing (m : Module) (s : Song) (k : List ℕ) (chs : List Channel) (cmds : List Command) (i : ℕ) : Type 0 where
+  pub low : i ≤ channelCount m
+  pub worked : Parting (λ j. voicedOn m s k j .channel) (λ j. freshChannel) freshChannel width chs i
+  pub told : Parting (λ j. voicedOn m s k j .command) (λ j. nothing) nothing width cmds i
 
-module _ (m : List ℕ) (s : Song) (k : List ℕ) (chs : List Channel) (cmds : List Command) where
-  pub voicing-begin : length chs ≡ channels → length cmds ≡ channels → Voicing m s k chs cmds 0
-  voicing-begin e q = record { low = zero≤; worked = fill-begin _ _ _ _ e; told = fill-begin _ _ _ _ q }
+module _ (m : Module) (s : Song) (k : List ℕ) (chs : List Channel) (cmds : List Command) where
+  pub voicing-begin : (x : Channel) → x ≡ freshChannel → chs ≡ replicate width x → cmds ≡ replicate width nothing → Voicing m s k chs cmds 0
+  voicing-begin x z e q = record { low = zero≤; worked = pad-begin _ _ _ _ (e ∙ ap (replicate width) z) (ap length e); told = pad-begin _ _ _ _ q (ap length q) }
 
-  pub voicing-again : (i : ℕ) (v : Voiced) → Voicing m s k chs cmds i → i < channels → v ≡ voicedOn m s k i → Voicing m s k (set chs i (v .channel)) (set cmds i (v .command)) (i + 1)
-  voicing-again i v w l e =
+  pub voicing-again : (i : ℕ) (v : Voiced) → LegalLayout (m .layout) → Voicing m s k chs cmds i → i < channelCount m → v ≡ voicedOn m s k i → Voicing m s k (set chs i (v .channel)) (set cmds i (v .command)) (i + 1)
+  voicing-again i v y w l e =
       record {
         low = omega arith;
-        worked = fill-again _ _ _ _ _ _ (w .worked) l (ap (λ (x : Voiced). x .channel) e);
-        told = fill-again _ _ _ _ _ _ (w .told) l (ap (λ (x : Voiced). x .command) e);
+        worked = part-again _ _ _ _ _ i (channelCount m) _ (w .worked) l (y .channels) (ap (λ (x : Voiced). x .channel) e);
+        told = part-again _ _ _ _ _ i (channelCount m) _ (w .told) l (y .channels) (ap (λ (x : Voiced). x .command) e);
       }
 
-  pub voicing-end : (i : ℕ) → Voicing m s k chs cmds i → channels ≤ i → record { channels = chs; commands = cmds } ≡ allVoiced m s k
+  pub voicing-end : (i : ℕ) → Voicing m s k chs cmds i → channelCount m ≤ i → record { channels = chs; commands = cmds } ≡ allVoiced m s k
   unfolding allVoiced
-  voicing-end i w l = rw (fill-end _ _ _ _ _ (w .worked) l, fill-end _ _ _ _ _ (w .told) l)
+  voicing-end i w l = rw (part-end _ _ _ _ _ i (channelCount m) (w .worked) l (w .low), part-end _ _ _ _ _ i (channelCount m) (w .told) l (w .low))
 
 -- ---- the song after the row's work has a tick below its row's
-pub work-time : (m : List ℕ) (s r : Song) → judged m .number ≡ 0 → Bytes m → LegalSong (songLength m) s → r ≡ songWork m s → LegalTime (r .tick) (r .speed) (r .delay)
-work-time m s r j b l e = rw e (work-kept m (accepted-has m j) b s l .time)
+pub work-time : (l : Layout) (xs : List ℕ) (s r : Song) → verdict (lent l xs) .number ≡ 0 → Bytes xs → LegalSong (songLength (lent l xs)) l s → r ≡ songWork (lent l xs) s → LegalTime (r .time)
+work-time y xs s r j b l e = rw e (work-kept (lent y xs) (accepted-has (lent y xs) j) b s l .time)
 
 -- ---- the samples of the commands
-pub samples-end : (cs : List Command) (xs : List ℕ) (i : ℕ) → length cs ≡ channels → Filled (λ j. getD cs j nothing .sample) 0 channels xs i → channels ≤ i → xs ≡ samplesOf cs
+pub samples-end : (cs : List Command) (xs : List ℕ) (i : ℕ) → length cs ≡ width → Filled (λ j. getD cs j nothing .sample) 0 width xs i → width ≤ i → xs ≡ soundingOf cs
 samples-end cs xs i e w l =
-    fill-end _ _ _ _ _ w l ∙ sym (each-by (λ j. getD cs j nothing .sample) channels 0 (samplesOf cs) (length-samples cs ∙ e) (λ k h. getD-samples cs k))
+    fill-end _ _ _ _ _ w l ∙ sym (each-by (λ j. getD cs j nothing .sample) width 0 (soundingOf cs) (length-sounding cs ∙ e) (λ k h. getD-sounding cs k))

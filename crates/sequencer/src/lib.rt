@@ -2,21 +2,23 @@
 // numbers are handed to it beside the song.
 ghost use mathlib.Core.Path.{_≡_};
 ghost use Prim.Native.Nat.{_<_};
-ghost use Rattle.ticks.specs.Legal.{samplesOf};
-ghost use Rattle.reader.specs.File.{songLength, channels};
-ghost use Rattle.reader.specs.Judge.{judged};
-ghost use Rattle.sequencer.specs.Songs.{silence, freshSong, voicedOn, allVoiced, tickWith, tickOf};
-ghost use Rattle.sequencer.specs.Legal.{LegalTime, LegalSong};
+ghost use Rattle.common.specs.Limits.{width};
+ghost use Rattle.ticks.specs.Commands.{soundingOf};
+ghost use Rattle.reader.specs.Layouts.{LegalLayout};
+ghost use Rattle.sequencer.specs.LegalFacts.{LegalTime, LegalSong};
+ghost use Rattle.reader.specs.Judge.{verdict};
+ghost use Rattle.reader.specs.File.{lent, songLength};
+ghost use Rattle.sequencer.specs.Songs.{courseFrom, freshSong, voicedOn, allVoiced, tickWith, tickOf};
+use common::limits::WIDTH;
 use effects::Channel;
 use effects::Voiced;
+use reader::Layout;
 use ticks::Command;
 use ticks::Tick;
 
 pub mod legality;
-pub mod next;
-pub mod row;
-
-pub const LAST_ROW: u32 = 63;
+mod next;
+mod row;
 
 // A position of the song and a row.
 pub struct Place {
@@ -25,27 +27,42 @@ pub struct Place {
 }
 
 // The loop row and count.
-pub struct Repeat {
+pub struct Loop {
     pub row: u32,
     pub count: u32,
 }
 
-// The song's state: where it is and what comes next; the tick in the row, the delay, and the channels' own numbers.
-pub struct Song {
+// Where the song is, where it goes next, and its loop.
+pub struct Course {
     pub at: Place,
     pub next: Place,
-    pub repeat: Repeat,
+    pub looping: Loop,
+}
+
+// The tick in the row, the row's delay, and how fast ticks come.
+pub struct Time {
     pub tick: u32,
     pub delay: u32,
     pub speed: u32,
     pub tempo: u32,
+}
+
+// What touches are held against.
+pub struct Desk {
     pub clock: u32,
     pub page: u32,
-    pub channels: [Channel; 4],
+}
+
+// The song's state, with the channels' own numbers.
+pub struct Song {
+    pub course: Course,
+    pub time: Time,
+    pub desk: Desk,
+    pub channels: [Channel; WIDTH],
 }
 
 // The loop row and count on the way through a row, and the jump that it asks for.
-pub struct Loop {
+pub struct Looping {
     pub row: u32,
     pub count: u32,
     pub asked: bool,
@@ -61,17 +78,15 @@ pub struct Move {
 
 // What a row's cells do to the song.
 pub struct Flow {
-    pub speed: u32,
-    pub tempo: u32,
-    pub delay: u32,
-    pub looping: Loop,
+    pub time: Time,
+    pub looping: Looping,
     pub moving: Move,
 }
 
 // All channels after their work in a tick, and the commands to their voices.
 pub struct AllVoiced {
-    pub channels: [Channel; 4],
-    pub commands: [Command; 4],
+    pub channels: [Channel; WIDTH],
+    pub commands: [Command; WIDTH],
 }
 
 // The song after a tick, and the tick.
@@ -80,15 +95,18 @@ pub struct Worked {
     pub tick: Tick,
 }
 
-fn silent_channel() -> Channel
-    ensures { λ r. ⌜ r ≡ silence ⌝ }
+// The course from a position's first row on.
+pub fn course_from(position: u32) -> Course
+    ensures { λ r. ⌜ r ≡ courseFrom position ⌝ }
 {
-    Channel {
-        latched: 0,
-        volume: 0,
-        period: 0,
-        target: 0,
-        memory: 0,
+    let at = Place {
+        position: position,
+        row: 0,
+    };
+    Course {
+        at: at,
+        next: at,
+        looping: Loop { row: 0, count: 0 },
     }
 }
 
@@ -96,47 +114,44 @@ fn silent_channel() -> Channel
 pub fn fresh() -> Song
     ensures { λ r. ⌜ r ≡ freshSong ⌝ }
 {
-    let start = Place {
-        position: 0,
-        row: 0,
-    };
-    let silence = silent_channel();
-    let channels = [silence; 4];
+    let channel = effects::fresh_channel();
+    let channels = [channel; WIDTH];
     Song {
-        at: start,
-        next: start,
-        repeat: Repeat { row: 0, count: 0 },
-        tick: 0,
-        delay: 0,
-        speed: 6,
-        tempo: 125,
-        clock: 0,
-        page: 0,
+        course: course_from(0),
+        time: Time {
+            tick: 0,
+            delay: 0,
+            speed: 6,
+            tempo: 125,
+        },
+        desk: Desk { clock: 0, page: 0 },
         channels: channels,
     }
 }
 
-fn voice_on(file: &[u8], song: Song, sounding: [u32; 4], i: usize) -> Voiced
-    requires { ⌜ (i < channels) × (0 < song .speed) ⌝ }
-    ensures { λ r. ⌜ r ≡ voicedOn (now (file .entry)) song sounding i ⌝ }
+fn voiced_on(layout: Layout, file: &[u8], song: Song, sounding: [u32; WIDTH], i: usize) -> Voiced
+    requires layout { ⌜ LegalLayout layout ⌝ }
+    requires channel { ⌜ (i < width) × (0 < song .time .speed) ⌝ }
+    ensures { λ r. ⌜ r ≡ voicedOn (lent layout (now (file .entry))) song sounding i ⌝ }
 {
     let channels = song.channels;
-    effects::commands::voice(
+    effects::commands::voiced(
         file,
-        row::cell_on(file, song.at, i),
-        song.tick,
-        song.tick % song.speed,
+        row::cell_on(layout, file, song.course.at, i),
+        song.time.tick,
+        song.time.tick % song.time.speed,
         channels[i],
         sounding[i],
     )
 }
 
-fn voice_all(file: &[u8], song: Song, sounding: [u32; 4]) -> AllVoiced
-    requires { ⌜ 0 < song .speed ⌝ }
-    ensures { λ r. ⌜ r ≡ allVoiced (now (file .entry)) song sounding ⌝ }
+fn all_voiced(layout: Layout, file: &[u8], song: Song, sounding: [u32; WIDTH]) -> AllVoiced
+    requires layout { ⌜ LegalLayout layout ⌝ }
+    requires speed { ⌜ 0 < song .time .speed ⌝ }
+    ensures { λ r. ⌜ r ≡ allVoiced (lent layout (now (file .entry))) song sounding ⌝ }
 {
-    let silence = silent_channel();
-    let mut channels = [silence; 4];
+    let channel = effects::fresh_channel();
+    let mut channels = [channel; WIDTH];
     let nothing = Command {
         sample: 0,
         volume: 0,
@@ -144,13 +159,15 @@ fn voice_all(file: &[u8], song: Song, sounding: [u32; 4]) -> AllVoiced
         start: false,
         offset: 0,
     };
-    let mut commands = [nothing; 4];
-    for i in 0..reader::CHANNELS {
-        let voiced = voice_on(file, song, sounding, i);
+    let mut commands = [nothing; WIDTH];
+    let mut i = 0;
+    while i < layout.channels {
+        let voiced = voiced_on(layout, file, song, sounding, i);
         let channel = voiced.channel;
         channels[i] = channel;
         let command = voiced.command;
         commands[i] = command;
+        i += 1;
     }
     AllVoiced {
         channels: channels,
@@ -159,39 +176,38 @@ fn voice_all(file: &[u8], song: Song, sounding: [u32; 4]) -> AllVoiced
 }
 
 fn tick_with(song: Song, voiced: AllVoiced) -> Worked
-    requires { ⌜ LegalTime (song .tick) (song .speed) (song .delay) ⌝ }
+    requires { ⌜ LegalTime (song .time) ⌝ }
     ensures { λ r. ⌜ r ≡ tickWith song voiced ⌝ }
 {
-    let mut worked = song;
     let channels = voiced.channels;
-    worked.channels = channels;
     let commands = voiced.commands;
     Worked {
-        song: next::advance(worked),
+        song: next::advanced(song, channels),
         tick: Tick {
-            tempo: song.tempo,
+            tempo: song.time.tempo,
             commands: commands,
         },
     }
 }
 
 // One tick of a legal song: the song after it, and what it tells the voices. `sounding` are the samples that the voices have.
-pub fn tick(file: &[u8], song: Song, sounding: [u32; 4]) -> Worked
-    requires { ⌜ judged (now file) .number ≡ 0 ⌝ }
-    requires { ⌜ LegalSong (songLength (now file)) song ⌝ }
-    ensures { λ r. ⌜ r ≡ tickOf (now (file .entry)) song sounding ⌝ }
+pub fn tick(layout: Layout, file: &[u8], song: Song, sounding: [u32; WIDTH]) -> Worked
+    requires layout { ⌜ LegalLayout layout ⌝ }
+    requires accepted { ⌜ verdict (lent layout (now file)) .number ≡ 0 ⌝ }
+    requires legal { ⌜ LegalSong (songLength (lent layout (now file))) layout song ⌝ }
+    ensures { λ r. ⌜ r ≡ tickOf (lent layout (now (file .entry))) song sounding ⌝ }
 {
-    let size = reader::song::song_length(file);
-    let voiced = voice_all(file, song, sounding);
-    tick_with(row::song_work(file, size, song), voiced)
+    let positions = reader::song::song_length(layout, file);
+    let voiced = all_voiced(layout, file, song, sounding);
+    tick_with(row::song_work(layout, file, positions, song), voiced)
 }
 
 // The samples that the voices have after these commands.
-pub fn sounding_of(commands: [Command; 4]) -> [u32; 4]
-    ensures { λ r. ⌜ r ≡ samplesOf commands ⌝ }
+pub fn sounding_of(commands: [Command; WIDTH]) -> [u32; WIDTH]
+    ensures { λ r. ⌜ r ≡ soundingOf commands ⌝ }
 {
-    let mut samples = [0; 4];
-    for i in 0..reader::CHANNELS {
+    let mut samples = [0; WIDTH];
+    for i in 0..WIDTH {
         samples[i] = commands[i].sample;
     }
     samples

@@ -1,6 +1,5 @@
 // Ticks: what a tick tells each channel's voice, and the fitting rule by which ticks are played into a buffer.
-
-pub mod legal;
+use common::limits::WIDTH;
 
 // What a channel's voice is told in a tick: sounding sample, volume and sounded period, whether the voice starts, and the start's
 // offset / 256 (0 without a start).
@@ -15,5 +14,5 @@ pub struct Command {
 // A tick: its tempo, and a command for each channel.
 pub struct Tick {
     pub tempo: u32,
-    pub commands: [Command; 4],
+    pub commands: [Command; WIDTH],
 }

@@ -8,85 +8,87 @@ use native.Mathlib.Omega.{arith}
 use lib.ListN.{length, getD, set, drop, replicate, length-replicate}
 use lib.Seq.{drop-at}
 use lib.IntN.{ℤ, pos}
-use lib.Signed.{mag}
-use Rattle.laws.specs.Each.{Filled, fill-begin, fill-again, fill-end}
-use Rattle.laws.specs.Lists.{part-each}
+use Rattle.laws.specs.Each.{Parting, within-begin, part-again, part-end}
+use Rattle.common.specs.Bytes.{Bytes}
+use Rattle.common.specs.Limits.{width, sampleNumbers}
 use Rattle.ticks.specs.declared.Command.{Command}
-use Rattle.ticks.specs.declared.Tick.{Tick}
-use Rattle.ticks.specs.Legal.{nothing}
-use Rattle.ticks.specs.Play.{over}
+use Rattle.ticks.specs.Commands.{nothing}
+use Rattle.reader.specs.Layouts.{LegalLayout}
+use Rattle.voice.specs.LegalFacts.{LegalSound, LoopInside, Ready}
 use Rattle.reader.specs.declared.Extent.{Extent}
-use Rattle.reader.specs.Samples.{Sample, none}
-use Rattle.reader.specs.Accept.{Bytes, Inside}
+use Rattle.reader.specs.declared.Layout.{Layout}
+use Rattle.reader.specs.File.{lent}
+use Rattle.reader.specs.Samples.{Sample, noExtent}
+use Rattle.reader.specs.Accept.{Inside}
 use Rattle.voice.specs.declared.Voice.{Voice}
-use Rattle.voice.specs.Voice.{sampleFrom, samplesIn, arriveAt, startOf, toldOf, greatestGiven}
-use Rattle.voice.specs.Frames.{stepsOf, givesAt, sideOf, framesFrom, scale, blank, soundingAt, voiceAt, heard, mixed, moved, framesAt, sizeAt, frames, after, sized}
+use Rattle.voice.specs.Voice.{sampleWith, samplesIn, arriveAt, started, toldOf}
+use Rattle.voice.specs.Frames.{frameNumbers, stepsOf, givesAt, sideOf, scaleOf, framesFrom, blank, soundingAt, voiceAt, heard, movedAt, mixed, moved}
 use Rattle.voice.specs.Adding.{numbersFrom, addedFrom, Room}
-use Rattle.voice.specs.Legal.{LegalVoice, LoopInside, Ready}
-use Rattle.voice.specs.Kept.{legal-steps, looping-at, legal-at}
-use Rattle.voice.specs.Range.{gives-range, before-below}
+use Rattle.voice.specs.Modules.{samples-bytes}
+use Rattle.voice.specs.Moved.{looping-at, sound-at}
+use Rattle.voice.specs.Range.{side-two, sides-legal, heard-range, room-before}
 use Rattle.voice.proofs.Sums.{no-frames, more-frames, each-cell}
 
 -- a command reads no byte
-told-bytes : (bytes : List ℕ) (x : Extent) (c : Command) (v r : Voice) → r ≡ toldOf (sampleFrom [] x) c v → r ≡ toldOf (sampleFrom bytes x) c v
-unfolding toldOf startOf arriveAt
+told-bytes : (bytes : List ℕ) (x : Extent) (c : Command) (v r : Voice) → r ≡ toldOf (sampleWith [] x) c v → r ≡ toldOf (sampleWith bytes x) c v
+unfolding toldOf started arriveAt
 told-bytes bytes x c v r e = e
 
-pub side-two : (i s : ℕ) → s ≡ sideOf i → s < 2
-unfolding sideOf
-side-two i s e = omega arith
+pub side-low : (i s : ℕ) → s ≡ sideOf i → s < 2
+side-low i s e = rw e (side-two i)
 
--- the voice of channel i after n frames
-abbrev goes : List ℕ → List Extent → List Voice → List Command → ℕ → ℕ → Voice
-goes file extents vs cs n i = stepsOf (soundingAt (samplesIn file extents) vs cs i) n (voiceAt (samplesIn file extents) vs cs i)
-
-pub record Mixing (file : List ℕ) (extents : List Extent) (vs : List Voice) (cs : List Command) (n : ℕ) (out₀ out : List ℤ) (w : List Voice) (i : ℕ) : Type 0 where
-  pub few : i ≤ 4
-  pub all : length vs ≡ 4
+pub record Mixing (l : Layout) (file : List ℕ) (extents : List Extent) (vs : List Voice) (cs : List Command) (n times : ℕ) (out₀ out : List ℤ) (w : List Voice) (i : ℕ) : Type 0 where
+  pub few : i ≤ l .channels
+  pub layout : LegalLayout l
+  pub scale : times ≡ scaleOf (l .channels)
   pub same : length out ≡ length out₀
-  pub long : 2 * n ≤ length out
+  pub long : frameNumbers * n ≤ length out
   pub bytes : Bytes file
-  pub ready : Ready file extents vs cs
-  pub voices : Filled (goes file extents vs cs n) blank 4 w i
-  pub frames : out ≡ framesFrom scale (heard (samplesIn file extents) vs cs) i 0 n ++ drop (2 * n) out₀
+  pub ready : Ready (lent l file) extents vs cs
+  pub voices : Parting (movedAt (samplesIn (lent l file) extents) vs cs n) (λ k. getD vs k blank) blank width w i
+  pub frames : out ≡ framesFrom times (heard (samplesIn (lent l file) extents) vs cs) i 0 n ++ drop (frameNumbers * n) out₀
 
 -- the cells past the frames
-rest : (n : ℕ) (out₀ old : List ℤ) → out₀ ≡ replicate (2 * n) (pos 0) ++ drop (2 * n) old → drop (2 * n) out₀ ≡ drop (2 * n) old
-rest n out₀ old e = ap (drop (2 * n)) e ∙ drop-at (replicate (2 * n) (pos 0)) _ (2 * n) (length-replicate (2 * n) (pos 0))
+rest : (n : ℕ) (out₀ old : List ℤ) → out₀ ≡ replicate (frameNumbers * n) (pos 0) ++ drop (frameNumbers * n) old → drop (frameNumbers * n) out₀ ≡ drop (frameNumbers * n) old
+rest n out₀ old e = ap (drop (frameNumbers * n)) e ∙ drop-at (replicate (frameNumbers * n) (pos 0)) _ (frameNumbers * n) (length-replicate (frameNumbers * n) (pos 0))
 
-pub mixing-none : {file : List ℕ} {extents : List Extent} {vs : List Voice} {cs : List Command} {n : ℕ} {out₀ : List ℤ} (old : List ℤ) → out₀ ≡ replicate (2 * n) (pos 0) ++ drop (2 * n) old → 2 * n ≤ length out₀ → length vs ≡ 4 → Bytes file → Ready file extents vs cs → Mixing file extents vs cs n out₀ out₀ vs 0
-mixing-none {file} {extents} {vs} {cs} {n} {out₀} old e l f b r =
+pub mixing-none : {l : Layout} {file : List ℕ} {extents : List Extent} {vs : List Voice} {cs : List Command} {n times : ℕ} {out₀ : List ℤ} (old : List ℤ) → LegalLayout l → times ≡ scaleOf (l .channels) → out₀ ≡ replicate (frameNumbers * n) (pos 0) ++ drop (frameNumbers * n) old → frameNumbers * n ≤ length out₀ → length vs ≡ width → Bytes file → Ready (lent l file) extents vs cs → Mixing l file extents vs cs n times out₀ out₀ vs 0
+mixing-none {l} {file} {extents} {vs} {cs} {n} {times} {out₀} old y t e q f b r =
     record {
       few = omega arith;
-      all = f;
+      layout = y;
+      scale = t;
       same = refl;
-      long = l;
+      long = q;
       bytes = b;
       ready = r;
-      voices = fill-begin (goes file extents vs cs n) blank 4 vs f;
-      frames = rw (no-frames scale (heard (samplesIn file extents) vs cs) 0 n, rest n out₀ old e) e;
+      voices = within-begin (movedAt (samplesIn (lent l file) extents) vs cs n) blank width vs f;
+      frames = rw (no-frames times (heard (samplesIn (lent l file) extents) vs cs) 0 n, rest n out₀ old e) e;
     }
 
-module _ {file : List ℕ} {extents : List Extent} {vs : List Voice} {cs : List Command} {n : ℕ} {out₀ out : List ℤ} {w : List Voice} {i : ℕ} (m : Mixing file extents vs cs n out₀ out w i) where
+module _ {l : Layout} {file : List ℕ} {extents : List Extent} {vs : List Voice} {cs : List Command} {n times : ℕ} {out₀ out : List ℤ} {w : List Voice} {i : ℕ} (m : Mixing l file extents vs cs n times out₀ out w i) where
+  abbrev samples : ℕ → Sample
+  samples = samplesIn (lent l file) extents
+
   -- ---- channel i
-  module _ (h : i < 4) where
+  module _ (h : i < l .channels) where
     abbrev x : Extent
-    x = getD extents (getD cs i nothing .sample) none
+    x = getD extents (getD cs i nothing .sample) noExtent
 
     abbrev s : Sample
-    s = soundingAt (samplesIn file extents) vs cs i
+    s = soundingAt samples cs i
 
-    low : i < length vs
-    low = rw (m .all) h
+    inside : Inside (lent l file) x
+    inside = m .ready .inside (getD cs i nothing .sample) (m .ready .commands i h .sample)
 
-    inside : Inside file x
-    inside = m .ready .inside (getD cs i nothing .sample) (m .ready .commands i low .sample)
+    pub low-at : i < width
+    low-at = omega (arith, m .layout .channels)
 
-    pub known-at : getD cs i nothing .sample < 32
-    known-at = omega (arith, m .ready .commands i low .sample)
+    pub known-at : getD cs i nothing .sample < sampleNumbers
+    known-at = omega (arith, m .ready .commands i h .sample, m .layout .samples)
 
     pub offset-at : getD cs i nothing .offset < 256
-    offset-at = omega (arith, m .ready .commands i low .offset)
+    offset-at = omega (arith, m .ready .commands i h .offset)
 
     pub order-at : x .from ≤ x .to
     order-at = inside .order
@@ -95,64 +97,42 @@ module _ {file : List ℕ} {extents : List Extent} {vs : List Voice} {cs : List 
     within-at = inside .within
 
     pub loop-at : LoopInside s
-    loop-at = looping-at file extents vs cs (m .ready) i low
+    loop-at = looping-at (lent l file) extents vs cs (m .ready) i h
 
-    pub voice-at : {v : Voice} → v ≡ toldOf (sampleFrom [] x) (getD cs i nothing) (getD vs i blank) → LegalVoice (x .end) v
-    voice-at {v} e = rw (told-bytes (s .bytes) x (getD cs i nothing) (getD vs i blank) v e) (legal-at file extents vs cs (m .ready) i low)
+    pub voice-at : {v : Voice} → v ≡ toldOf (sampleWith [] x) (getD cs i nothing) (getD vs i blank) → LegalSound (x .end) v
+    voice-at {v} e = rw (told-bytes (s .bytes) x (getD cs i nothing) (getD vs i blank) v e) (sound-at (lent l file) extents vs cs (m .ready) i h)
 
-    heard-range : (j k : ℕ) → j < 4 → mag (heard (samplesIn file extents) vs cs k j) < greatestGiven
-    heard-range j k l =
-        let j′ : j < length vs = rw (m .all) l in
-        let y = getD extents (getD cs j nothing .sample) none in
-        let t = soundingAt (samplesIn file extents) vs cs j in
-        gives-range (t .bytes) (part-each (λ (b : ℕ). b < 256) 0 (omega arith) (y .from) (y .to - y .from) file (m .bytes))
-        (stepsOf t k (voiceAt (samplesIn file extents) vs cs j)) (legal-steps t (looping-at file extents vs cs (m .ready) j j′) k (voiceAt (samplesIn file extents) vs cs j) (legal-at file extents vs cs (m .ready) j j′) .volume)
-
-    pub room-at : {side : ℕ} → side ≡ sideOf i → (k : ℕ) → k < n → Room scale (getD out (side + 2 * k) (pos 0))
-    room-at {side} e k l =
+    pub room-at : {side : ℕ} → side ≡ sideOf i → (k : ℕ) → k < n → Room times (getD out (side + frameNumbers * k) (pos 0))
+    room-at {side} e k q =
         rw (m .frames)
-        (each-cell (Room scale) scale (heard (samplesIn file extents) vs cs) i side (drop (2 * n) out₀) (side-two i side e)
-        (λ j. rw e (omega (arith, before-below (heard (samplesIn file extents) vs cs j) i h (λ c t. heard-range c j (omega arith)))))
-        n 0 k l)
+        (each-cell (Room times) times (heard samples vs cs) i side (drop (frameNumbers * n) out₀) (side-low i side e)
+        (λ j. rw (e, m .scale) (room-before (heard samples vs cs j) (l .channels) (scaleOf (l .channels)) (sides-legal (l .channels) (m .layout .channels)) i h
+        (λ c t. heard-range samples vs cs j c (samples-bytes (lent l file) extents (m .bytes) (getD cs c nothing .sample)) (m .ready .commands c (omega arith) .volume))))
+        n 0 k q)
 
-    pub mixing-more : {side : ℕ} {v r : Voice} {new : List ℤ} → side ≡ sideOf i → v ≡ toldOf (sampleFrom [] x) (getD cs i nothing) (getD vs i blank) → r ≡ stepsOf s n v → new ≡ addedFrom side (numbersFrom scale (givesAt s v) 0 n) out → length new ≡ length out → Mixing file extents vs cs n out₀ new (set w i r) (i + 1)
-    mixing-more {side} {v} {r} {new} e q p z l =
-        let t : v ≡ voiceAt (samplesIn file extents) vs cs i = told-bytes (s .bytes) x (getD cs i nothing) (getD vs i blank) v q in
+    pub mixing-more : {side : ℕ} {v r : Voice} {new : List ℤ} → side ≡ sideOf i → v ≡ toldOf (sampleWith [] x) (getD cs i nothing) (getD vs i blank) → r ≡ stepsOf s n v → new ≡ addedFrom side (numbersFrom times (givesAt s v) 0 n) out → length new ≡ length out → Mixing l file extents vs cs n times out₀ new (set w i r) (i + 1)
+    mixing-more {side} {v} {r} {new} e q p z y =
+        let t : v ≡ voiceAt samples vs cs i = told-bytes (s .bytes) x (getD cs i nothing) (getD vs i blank) v q in
         record {
           few = omega arith;
-          all = m .all;
-          same = l ∙ m .same;
+          layout = m .layout;
+          scale = m .scale;
+          same = y ∙ m .same;
           long = omega (arith, m .long);
           bytes = m .bytes;
           ready = m .ready;
-          voices = fill-again (goes file extents vs cs n) blank 4 w i r (m .voices) h (p ∙ ap (stepsOf s n) t);
-          frames = rw (add-one i) (z ∙ rw (t, m .frames) (more-frames scale (heard (samplesIn file extents) vs cs) i n 0 side (drop (2 * n) out₀) (side-two i side e) (sym e)));
+          voices = part-again (movedAt samples vs cs n) blank width w (λ k. getD vs k blank) i (l .channels) r (m .voices) h (m .layout .channels) (p ∙ ap (stepsOf s n) t);
+          frames = rw (add-one i) (z ∙ rw (t, m .frames) (more-frames times (heard samples vs cs) i n 0 side (drop (frameNumbers * n) out₀) (side-low i side e) (sym e)));
         }
 
   -- ---- no channel is left
-  module _ (h : 4 ≤ i) where
-    pub voices-end : w ≡ moved (samplesIn file extents) vs cs n
+  module _ (h : l .channels ≤ i) where
+    pub voices-end : w ≡ moved (l .channels) samples vs cs n
     unfolding moved
-    voices-end = rw (m .all) (fill-end (goes file extents vs cs n) blank 4 w i (m .voices) h)
+    voices-end = part-end (movedAt samples vs cs n) blank width w (λ k. getD vs k blank) i (l .channels) (m .voices) h (m .few)
 
-    pub frames-end : (old : List ℤ) → out₀ ≡ replicate (2 * n) (pos 0) ++ drop (2 * n) old → out ≡ mixed (samplesIn file extents) vs cs n ++ drop (2 * n) old
+    pub frames-end : (old : List ℤ) → out₀ ≡ replicate (frameNumbers * n) (pos 0) ++ drop (frameNumbers * n) old → out ≡ mixed (l .channels) samples vs cs n ++ drop (frameNumbers * n) old
     unfolding mixed
     frames-end old e =
-        let c : i ≡ 4 = omega (arith, m .few) in
-        rw (m .all, ← rest n out₀ old e) (rw c at (m .frames))
-
--- ---- a tick of n frames
-pub tick-room : (tempo n room : ℕ) → n ≡ framesAt tempo → sizeAt tempo ≤ room → 2 * n ≤ room
-unfolding sizeAt
-tick-room tempo n room e h = rw e h
-
-module _ (samples : ℕ → Sample) (vs : List Voice) (t : Tick) (n : ℕ) (e : n ≡ framesAt (t .tempo)) where
-  pub tick-voices : {r : List Voice} → r ≡ moved samples vs (t .commands) n → r ≡ after samples vs t
-  unfolding after
-  tick-voices q = rw (← e) q
-
-  pub tick-frames : (out : List ℤ) {new : List ℤ} → new ≡ mixed samples vs (t .commands) n ++ drop (2 * n) out → new ≡ over (frames samples vs t) out
-  unfolding frames sizeAt
-  tick-frames out q =
-      let l : length (mixed samples vs (t .commands) n) ≡ 2 * n = rw e (sized samples vs t) in
-      rw (← e, l) q
+        let c : i ≡ l .channels = omega (arith, m .few) in
+        rw (← rest n out₀ old e, ← m .scale) (rw c at (m .frames))

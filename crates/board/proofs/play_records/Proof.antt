@@ -1,39 +1,15 @@
--- `board::play_records` meets its contract. The ticks that are played, followed by those of the records that are left, are the whole stream's;
--- the voices stay legal, and their samples are the registers', which a good record is legal beside. Assumes nothing.
-use borrow.Author.Needs.{needs}
+-- The loop: the ticks that are played, followed by those of the records that are left, are the whole stream's (`Turning`).
+use Rattle.board.proofs.Turns.{good-long, Turning, turning-begin, turning-layout, turning-few, turning-within, turning-narrow, turning-next, turning-all, turning-tempo, turning-ready, turning-full, turning-long, turning-more}
 use Prim.Native.Nat.{_-_}
-use Rattle.board.proofs.Turns.{good-long, Turn, turn-begin, turn-tempo, turn-ready, turn-room, turn-full, turn-more, turn-all}
+use borrow.Author.Needs.{needs}
 use Rattle.board.proofs.play_records.Statement.{statement}
 use Rattle.board.proofs.play_records.Tie as tie
 
 abbrev Inv-loop : tie.InvT-loop
-Inv-loop stream file out₀ extents count voices₀ registers₀ from₀ at₀ i₀ out voices registers from at i =
-    Turn file stream extents out₀ voices registers from out at i
+Inv-loop layout file stream out₀ extents last count machine₀ registers₀ from₀ at₀ i₀ out machine registers from at i = Turning layout file stream extents last count out₀ machine registers from out at i
 
 abbrev μ-loop : tie.MeasureT-loop
-μ-loop stream file out₀ extents count voices₀ registers₀ from₀ at₀ i₀ out voices registers from at i =
-    count - i
-
-count-of-requires : tie.Need-count-of-requires Inv-loop μ-loop
-count-of-requires c κs = search (good-long, needs)
-
-loop-holds : tie.Need-loop-holds Inv-loop μ-loop
-loop-holds c = search (turn-begin, needs)
-
-tick-size-requires : tie.Need-tick-size-requires Inv-loop μ-loop
-tick-size-requires c κs = search (turn-tempo, needs)
-
-returns : tie.Need-returns Inv-loop μ-loop
-returns c = search (turn-full, needs)
-
-render-requires : tie.Need-render-requires Inv-loop μ-loop
-render-requires c κs = search (turn-tempo, turn-ready, turn-room, needs)
-
-loop-again : tie.Need-loop-again Inv-loop μ-loop
-loop-again c = search (turn-more, needs)
-
-returns-2 : tie.Need-returns-2 Inv-loop μ-loop
-returns-2 c = search (turn-all, needs)
+μ-loop layout file stream out₀ extents last count machine₀ registers₀ from₀ at₀ i₀ out machine registers from at i = count - i
 
 pub play-records-spec : {M : Type 1} → statement M
 play-records-spec =
@@ -42,25 +18,24 @@ play-records-spec =
     Inv-loop
     μ-loop
     (λ c κs. search needs)
-    count-of-requires
+    (λ c. search needs)
+    (λ c κs. search (good-long, needs))
     (λ c κs. search needs)
     (λ c κs. search needs)
-    loop-holds
+    (λ c. search (turning-begin, needs))
+    (λ c κs. search (turning-few, needs))
+    (λ c. search (turning-within, turning-narrow, needs))
+    (λ c. search needs)
+    (λ c. search needs)
+    (λ c. search needs)
+    (λ c κs. search (turning-layout, turning-ready, turning-tempo, needs))
     (λ c κs. search needs)
-    tick-size-requires
-    (λ c. search needs)
-    (λ c κs. search needs)
-    (λ c. search needs)
-    returns
+    (λ c. search (turning-long, needs))
+    (λ c. search (turning-full, needs))
+    (λ c. search (turning-next, needs))
     (λ c. search needs)
     (λ c. search needs)
-    (λ c. search needs)
-    (λ c. search needs)
-    render-requires
-    (λ c. search needs)
-    (λ c. search needs)
-    (λ c. search needs)
-    loop-again
+    (λ c. search (turning-more, needs))
     (λ c κs. search needs)
     (λ c. search needs)
-    returns-2)
+    (λ c. search (turning-all, needs)))

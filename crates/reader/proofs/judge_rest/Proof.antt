@@ -4,27 +4,18 @@ use borrow.Author.Needs.{needs}
 use Rattle.reader.proofs.judge_rest.Statement.{statement}
 use Rattle.reader.proofs.judge_rest.Tie as tie
 
-returns : tie.Need-returns
-returns c = search (refused-7, needs)
-
-returns-2 : tie.Need-returns-2
-returns-2 c = search (refused-cells, needs)
-
-returns-3 : tie.Need-returns-3
-returns-3 c = search (refused-clean, needs)
-
 pub judge-rest-spec : {M : Type 1} → statement M
 judge-rest-spec =
     tie.close
     (tie.spec
     (λ c κs. search needs)
     (λ c κs. search needs)
-    returns
-    (λ c. search needs)
+    (λ c κs. search needs)
+    (λ c. search (refused-7, needs))
     (λ c. search needs)
     (λ c κs. search needs)
-    (λ c. search needs)
-    (λ c. search needs)
     (λ c κs. search needs)
-    returns-2
-    returns-3)
+    (λ c κs. search needs)
+    (λ c. search (refused-cells, needs))
+    (λ c κs. search needs)
+    (λ c. search (refused-clean, needs)))

@@ -1,32 +1,21 @@
 -- The loop: no header passed has a loop that leaves its sample.
 use borrow.Author.Needs.{needs}
 use Rattle.reader.specs.Judge.{badLoop}
-use Rattle.reader.specs.File.{samples}
+use Rattle.reader.specs.File.{lent}
 use Rattle.laws.specs.Tests.{called}
-use Rattle.laws.specs.Search.{some, searches}
+use Rattle.laws.specs.Search.{searches}
 use mathlib.Core.Bool.{false}
 use mathlib.Core.Path.{_≡_}
 use Prim.Native.Nat.{_-_, _≤_}
 use Rattle.reader.proofs.headers.first_bad_loop.Statement.{statement}
 use Rattle.reader.proofs.headers.first_bad_loop.Tie as tie
+use Rattle.laws.specs.Ranges.{some}
 
 abbrev Inv-loop : tie.InvT-loop
-Inv-loop file k₀ k = (k ≤ samples) × (some (badLoop file) k ≡ false)
+Inv-loop layout file k₀ k = (k ≤ layout .samples) × (some (badLoop (lent layout file)) k ≡ false)
 
 abbrev μ-loop : tie.MeasureT-loop
-μ-loop file k₀ k = samples - k
-
-loop-holds : tie.Need-loop-holds Inv-loop μ-loop
-loop-holds c = search (searches, needs)
-
-returns : tie.Need-returns Inv-loop μ-loop
-returns c = search (searches, called, needs)
-
-loop-again : tie.Need-loop-again Inv-loop μ-loop
-loop-again c = search (searches, called, needs)
-
-returns-2 : tie.Need-returns-2 Inv-loop μ-loop
-returns-2 c = search (searches, needs)
+μ-loop layout file k₀ k = layout .samples - k
 
 pub first-bad-loop-spec : {M : Type 1} → statement M
 first-bad-loop-spec =
@@ -34,10 +23,10 @@ first-bad-loop-spec =
     (tie.spec
     Inv-loop
     μ-loop
-    loop-holds
+    (λ c. search (searches, needs))
     (λ c κs. search needs)
-    returns
+    (λ c. search (searches, called, needs))
     (λ c. search needs)
     (λ c. search needs)
-    loop-again
-    returns-2)
+    (λ c. search (searches, called, needs))
+    (λ c. search (searches, needs)))

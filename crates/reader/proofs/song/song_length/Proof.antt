@@ -5,11 +5,5 @@ use borrow.Author.Needs.{needs}
 use Rattle.reader.proofs.song.song_length.Statement.{statement}
 use Rattle.reader.proofs.song.song_length.Tie as tie
 
-shared-slice-read-wide32 : tie.Need-shared-slice-read-wide32
-shared-slice-read-wide32 c = omega (arith, accepted-long _ (c .before .before .pre))
-
-returns : tie.Need-returns
-returns c = (c .wide32 .ensures .0, λ i. omega (arith, c .before .shared-slice-known2 .given i))
-
 pub song-length-spec : {M : Type 1} → statement M
-song-length-spec = tie.close (tie.spec shared-slice-read-wide32 (λ c κs. search needs) returns)
+song-length-spec = tie.close (tie.spec (λ c. omega (arith, accepted-long _ _ (c .before .before .pre .1))) (λ c κs. search needs) (λ c. (c .wide32 .ensures .0, λ i. omega (arith, c .before .shared-slice-known2 .given i))))

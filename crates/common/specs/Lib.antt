@@ -1,0 +1,6 @@
+pub mod Limits
+pub mod Bytes
+pub mod Answers
+pub mod LimitFacts
+pub mod ByteLaws
+pub mod AnswerLaws

@@ -1,0 +1,112 @@
+-- Laws of records and whole streams, in the form in which the code's tests and loops leave their facts.
+-- Assumes nothing.
+use Prim.Native.Nat.{ℕ, _+_, _-_, _≤_, _<_}
+use mathlib.Core.Path.{_≡_, refl, sym, ap, _∙_}
+use mathlib.Core.Bool.{Bool, true, false, not}
+use mathlib.Core.List.{List}
+use native.Mathlib.Omega.{arith}
+use lib.ListN.{length, take}
+use borrow.Author.Tests.{le-leb, lt-leb, le-ltb, lt-ltb, eq-eqb, ne-eqb, not-true, not-false}
+use Rattle.common.specs.Limits.{width, leastTempo, greatestTempo, between}
+use Rattle.common.specs.Bytes.{byteAt, fourAt}
+use Rattle.common.specs.Answers.{refused, accepted, refusing}
+use Rattle.common.specs.declared.Answer.{Answer}
+use Rattle.ticks.specs.declared.Command.{Command}
+use Rattle.ticks.specs.declared.Tick.{Tick}
+use Rattle.records.specs.Format.{versionPlace, countPlace, recordsPlace, headBytes, tempoPlace, knownVersion, atFirst, Read, bad, readOn, readChannels, readTick, readRecord, Decoded, refusal, ticks, withTick, decodeRecords, decodeAfter, decode}
+use Rattle.records.specs.Reads.{flag-read, flag-bad}
+use Rattle.decoder.specs.declared.ChannelsRead.{ChannelsRead}
+use Rattle.decoder.specs.declared.Record.{Record}
+use Rattle.decoder.specs.Answers.{asChannels, asRecord, answerOf}
+use Rattle.decoder.specs.Remaining.{record-read, record-unread, next-record}
+
+-- ---- a record
+abbrev badRecord : List Command → ℕ → Record
+badRecord registers at = record { ok = false; tick = record { tempo = 0; commands = registers }; next = at }
+
+module _ (last c : ℕ) (s : List ℕ) (at : ℕ) (registers : List Command) (n : ℕ) (l : n ≡ length s - at) where
+  pub record-short : n < headBytes → badRecord registers at ≡ asRecord registers at (readRecord last c s at registers)
+  unfolding asRecord readRecord readOn
+  record-short h = rw (lt-leb (at + headBytes) (length s) (omega arith))
+
+  module _ (h : headBytes ≤ n) (tempo : ℕ) (e : tempo ≡ byteAt s (at + tempoPlace)) (b : Bool) (q : b ≡ between leastTempo greatestTempo tempo) where
+    pub record-tempo : not b ≡ true → badRecord registers at ≡ asRecord registers at (readRecord last c s at registers)
+    unfolding asRecord readRecord readOn
+    record-tempo f = rw (le-leb (at + headBytes) (length s) (omega arith), ← e, ← q, not-true b f)
+
+    module _ (f : not b ≡ false) (m : ℕ) (p : m ≡ byteAt s at) (x : ChannelsRead) (g : x ≡ asChannels c registers (at + headBytes) (readChannels last s (at + headBytes) (take c registers) m)) where
+      here : readRecord last c s at registers ≡ readOn bad (readChannels last s (at + headBytes) (take c registers) m) (readTick c registers tempo)
+      unfolding readRecord
+      here = rw (le-leb (at + headBytes) (length s) (omega arith), ← e, ← q, ← p, not-false b f)
+
+      pub record-bad : not (x .ok) ≡ true → badRecord registers at ≡ asRecord registers at (readRecord last c s at registers)
+      unfolding asRecord asChannels readOn
+      record-bad t = rw (here, flag-bad (λ (y : ChannelsRead). y .ok) _ _ (readChannels last s (at + headBytes) (take c registers) m) x g (λ cs k. refl) (not-true (x .ok) t))
+
+      pub record-good : not (x .ok) ≡ false → record { ok = true; tick = record { tempo = tempo; commands = x .commands }; next = x .next } ≡ asRecord registers at (readRecord last c s at registers)
+      unfolding asRecord asChannels readOn
+      record-good t =
+          let w = flag-read (λ (y : ChannelsRead). y .ok) _ _ (readChannels last s (at + headBytes) (take c registers) m) x g refl (not-false (x .ok) t) in
+          ap (λ (y : ChannelsRead). record { ok = true; tick = record { tempo = tempo; commands = y .commands }; next = y .next }) (sym (w .on))
+          ∙ ap (asRecord registers at) (sym (here ∙ ap (λ (y : Read (List Command)). readOn bad y (readTick c registers tempo)) (w .is)))
+
+-- ---- the records
+answer-with : (t : Tick) (x : Decoded) → answerOf (withTick t x) ≡ answerOf x
+unfolding answerOf withTick
+answer-with t (refusal number place) = refl
+answer-with t (ticks ts) = refl
+
+-- the answer of what is left is the whole's
+pub record Checked (last c : ℕ) (s : List ℕ) (count : ℕ) (registers : List Command) (at left : ℕ) : Type 0 where
+  pub few : c ≤ width
+  pub whole : answerOf (decodeRecords last c s count recordsPlace atFirst) ≡ answerOf (decodeRecords last c s left at registers)
+
+module _ (last c : ℕ) (s : List ℕ) (count : ℕ) where
+  pub checked-none : (registers : List Command) → c ≤ width → registers ≡ atFirst → Checked last c s count registers recordsPlace count
+  checked-none registers h e = record { few = h; whole = rw e }
+
+  module _ (registers : List Command) (at left : ℕ) (w : Checked last c s count registers at left) where
+    module _ (pos : 0 < left) (r : Record) (e : r ≡ asRecord registers at (readRecord last c s at registers)) where
+      pub checked-more : not (r .ok) ≡ false → Checked last c s count (r .tick .commands) (r .next) (left - 1)
+      unfolding readOn
+      checked-more t =
+          record {
+            few = w .few;
+            whole = w .whole ∙ rw (next-record last c s left at registers pos, record-read registers at (readRecord last c s at registers) r e (not-false (r .ok) t)) (answer-with (r .tick) (decodeRecords last c s (left - 1) (r .next) (r .tick .commands)));
+          }
+
+      pub checked-bad : not (r .ok) ≡ true → (a : Answer) → a ≡ refused 23 at → a ≡ answerOf (decodeRecords last c s count recordsPlace atFirst)
+      unfolding answerOf readOn
+      checked-bad t a q = q ∙ sym (w .whole ∙ rw (next-record last c s left at registers pos, record-unread registers at (readRecord last c s at registers) r e (not-true (r .ok) t)))
+
+    module _ (h : left ≤ 0) where
+      done : left ≡ 0
+      done = omega arith
+
+      pub checked-over : (at ≡ length s → ⊥) → (a : Answer) → a ≡ refused 23 at → a ≡ answerOf (decodeRecords last c s count recordsPlace atFirst)
+      unfolding answerOf decodeRecords
+      checked-over n a q = q ∙ sym (w .whole ∙ rw (done, ne-eqb at (length s) n))
+
+      pub checked-all : at ≡ length s → (a : Answer) → a ≡ accepted 0 → a ≡ answerOf (decodeRecords last c s count recordsPlace atFirst)
+      unfolding answerOf decodeRecords
+      checked-all n a q = q ∙ sym (w .whole ∙ rw (done, eq-eqb at (length s) n))
+
+-- ---- the whole stream
+module _ (last c : ℕ) (s : List ℕ) (a : Answer) where
+  pub stream-short : length s < recordsPlace → a ≡ refused 21 (length s) → a ≡ answerOf (decode last c s)
+  unfolding answerOf decodeAfter refusing
+  stream-short h q = rw (lt-ltb (length s) recordsPlace h) q
+
+  module _ (h : recordsPlace ≤ length s) (n : ℕ) (e : n ≡ fourAt s 0) where
+    pub stream-off : (length s ≡ versionPlace + n → ⊥) → a ≡ refused 21 (length s) → a ≡ answerOf (decode last c s)
+    unfolding answerOf decodeAfter refusing
+    stream-off p q = rw (le-ltb (length s) recordsPlace h, ← e, ne-eqb (length s) (versionPlace + n) p) q
+
+    module _ (p : length s ≡ versionPlace + n) (b : Bool) (v : b ≡ knownVersion (byteAt s versionPlace)) where
+      pub stream-version : not b ≡ true → a ≡ refused 22 versionPlace → a ≡ answerOf (decode last c s)
+      unfolding answerOf decodeAfter refusing
+      stream-version t q = rw (le-ltb (length s) recordsPlace h, ← e, eq-eqb (length s) (versionPlace + n) p, ← v, t) q
+
+      pub stream-records : not b ≡ false → (k : ℕ) → k ≡ fourAt s countPlace → a ≡ answerOf (decodeRecords last c s k recordsPlace atFirst) → a ≡ answerOf (decode last c s)
+      unfolding decodeAfter refusing
+      stream-records t k x q = q ∙ rw (le-ltb (length s) recordsPlace h, ← e, eq-eqb (length s) (versionPlace + n) p, ← v, t, x)

@@ -1,0 +1,15 @@
+-- By what the three calls give.
+use Rattle.effects.specs.Commands.{voiced}
+use borrow.Author.Needs.{needs}
+use Rattle.effects.proofs.commands.voiced.Statement.{statement}
+use Rattle.effects.proofs.commands.voiced.Tie as tie
+
+pub voiced-spec : {M : Type 1} → statement M
+unfolding voiced
+voiced-spec =
+    tie.close
+    (tie.spec
+    (λ c κs. search needs)
+    (λ c κs. search needs)
+    (λ c κs. search needs)
+    (λ c. cc))

@@ -1,0 +1,10 @@
+-- The same tests, joined in the same order.
+use Rattle.laws.specs.Ranges.{all, allFrom}
+use Rattle.effects.specs.Legal.{isFresh}
+use borrow.Author.Needs.{needs}
+use Rattle.effects.proofs.legal.is_fresh.Statement.{statement}
+use Rattle.effects.proofs.legal.is_fresh.Tie as tie
+
+pub is-fresh-spec : {M : Type 1} → statement M
+unfolding isFresh all allFrom
+is-fresh-spec = tie.close (tie.spec (λ c. search needs))

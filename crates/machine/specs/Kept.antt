@@ -1,0 +1,80 @@
+-- What is known of a machine: legal ones, which a tick keeps legal; the range of its numbers; and that it depends on the samples that sound, and on no other.
+-- Assumes nothing.
+use Prim.Native.Nat.{ℕ, _≤_, _<_}
+use mathlib.Core.Path.{_≡_, ap}
+use mathlib.Core.List.{List}
+use native.Mathlib.Omega.{arith}
+use lib.IntN.{pos}
+use lib.ListN.{length, getD}
+use lib.Signed.{mag}
+use Rattle.laws.specs.Each.{length-each, getD-each}
+use Rattle.common.specs.Bytes.{Bytes}
+use Rattle.common.specs.Limits.{width, loudest}
+use Rattle.ticks.specs.declared.Tick.{Tick}
+use Rattle.ticks.specs.Commands.{nothing}
+use Rattle.voice.specs.LegalFacts.{LegalVoices, Ready}
+use Rattle.reader.specs.declared.Extent.{Extent}
+use Rattle.reader.specs.declared.Layout.{Layout}
+use Rattle.reader.specs.File.{Module, channelCount}
+use Rattle.reader.specs.Samples.{Sample}
+use Rattle.voice.specs.declared.Voice.{Voice}
+use Rattle.voice.specs.Voice.{freshVoice, samplesIn, half16}
+use Rattle.voice.specs.Frames.{blank, soundingAt}
+use Rattle.voice.specs.Kept.{fresh-legal}
+use Rattle.voice.specs.Moved.{moved-length, moved-sample, moved-rest, moved-legal, mixed-same, moved-same}
+use Rattle.voice.specs.Range.{mixed-fits}
+use Rattle.machine.specs.declared.Machine.{Machine}
+use Rattle.machine.specs.Machine.{freshMachine, framesAt, frames, after}
+
+-- ---- legal machines
+-- its voices are legal
+pub record LegalMachine (l : Layout) (extents : List Extent) (w : Machine) : Type 0 where
+  pub voices : LegalVoices l extents (w .voices)
+
+pub machine-fresh : (l : Layout) (extents : List Extent) → l .channels ≤ width → LegalMachine l extents freshMachine
+unfolding freshMachine
+machine-fresh l extents room =
+    record {
+      voices =
+          record {
+            long = length-each {A = Voice} (λ i. freshVoice) width;
+            used = λ i h. rw (getD-each {A = Voice} (λ j. freshVoice) width i blank (omega arith)) (fresh-legal (l .samples) _);
+            rest = λ i w h. getD-each {A = Voice} (λ j. freshVoice) width i blank w;
+          };
+    }
+
+-- a tick keeps a machine legal
+pub after-legal : (m : Module) (extents : List Extent) (w : Machine) (t : Tick) → channelCount m ≤ width → Ready m extents (w .voices) (t .commands) → LegalMachine (m .layout) extents (after (channelCount m) (samplesIn m extents) w t)
+unfolding after
+after-legal m extents w t room r = record { voices = moved-legal m extents (w .voices) (t .commands) r room (framesAt (t .tempo)) }
+
+-- ---- the voices after a tick
+module _ (c : ℕ) (samples : ℕ → Sample) (w : Machine) (t : Tick) where
+  pub after-length : length (after c samples w t .voices) ≡ width
+  unfolding after
+  after-length = moved-length c samples (w .voices) (t .commands) (framesAt (t .tempo))
+
+  -- a voice's sounding sample is the command's
+  pub after-sample : (i : ℕ) → c ≤ width → i < c → getD (after c samples w t .voices) i blank .sample ≡ getD (t .commands) i nothing .sample
+  unfolding after
+  after-sample = moved-sample c samples (w .voices) (t .commands) (framesAt (t .tempo))
+
+  -- past the count it stays as it was
+  pub after-rest : (i : ℕ) → i < width → c ≤ i → getD (after c samples w t .voices) i blank ≡ getD (w .voices) i blank
+  unfolding after
+  after-rest = moved-rest c samples (w .voices) (t .commands) (framesAt (t .tempo))
+
+  -- no number of a tick leaves 16 bits signed
+  pub frames-fit : c ≤ width → ((k : ℕ) → Bytes (samples k .bytes)) → ((i : ℕ) → i < c → getD (t .commands) i nothing .volume ≤ loudest) → (j : ℕ) → mag (getD (frames c samples w t) j (pos 0)) < half16
+  unfolding frames
+  frames-fit room bytes low = mixed-fits c room samples bytes (w .voices) (t .commands) low (framesAt (t .tempo))
+
+-- ---- a tick depends on the samples that its commands name, and on no other
+module _ (c : ℕ) (samples others : ℕ → Sample) (w : Machine) (t : Tick) (same : (i : ℕ) → i < c → soundingAt samples (t .commands) i ≡ soundingAt others (t .commands) i) where
+  pub frames-same : frames c samples w t ≡ frames c others w t
+  unfolding frames
+  frames-same = mixed-same c samples others (w .voices) (t .commands) same (framesAt (t .tempo))
+
+  pub after-same : after c samples w t ≡ after c others w t
+  unfolding after
+  after-same = ap (λ (vs : List Voice). record { voices = vs }) (moved-same c samples others (w .voices) (t .commands) same (framesAt (t .tempo)))

@@ -1,0 +1,5 @@
+pub mod Turn
+pub mod Machine
+pub mod Kept
+pub mod Turns
+pub mod Carries

@@ -1,0 +1,79 @@
+-- The count is the largest number of ticks that fit (`count-fits`, `count-most`), and state and buffer are those of so many ticks: on any machine, and for the player.
+-- Assumes nothing.
+use Prim.Native.Nat.{ℕ, zero, suc, _≤_}
+use mathlib.Core.Path.{_≡_, refl, ap}
+use mathlib.Core.List.{List, _∷_}
+use native.Mathlib.Omega.{arith}
+use lib.IntN.{ℤ}
+use lib.ListN.{length, take}
+use Rattle.ticks.specs.declared.Tick.{Tick}
+use Rattle.ticks.specs.Play.{over, Mechanism, afterAll, rendered, fit, afterFit, playOut}
+use Rattle.reader.specs.File.{Module}
+use Rattle.sequencer.specs.declared.Song.{Song}
+use Rattle.sequencer.specs.Songs.{tickOf}
+use Rattle.sequencer.specs.Runs.{ticksFrom}
+use Rattle.sequencer.specs.RunLaws.{length-ticks}
+use Rattle.player.specs.declared.State.{State}
+use Rattle.player.specs.Play.{soundings, ticksOf, machineOf, stateAfter, countOf, playedFrom, numbersOf, roomOf}
+use Rattle.ticks.specs.PlayLaws.{fit-le, fit-fits, fit-most}
+use Rattle.machine.specs.Machine.{mechanismOf}
+
+take-ticks : (m : Module) (k n : ℕ) (song : Song) (sounding : List ℕ) → k ≤ n → take k (ticksFrom m n song sounding) ≡ ticksFrom m k song sounding
+unfolding ticksFrom
+take-ticks m zero n song sounding h = refl
+take-ticks m (suc k) zero song sounding h = absurd (omega arith)
+take-ticks m (suc k) (suc n) song sounding h = ap (λ (ts : List Tick). tickOf m song sounding .tick ∷ ts) (take-ticks m k n _ _ (omega arith))
+
+-- ---- on any machine
+module _ {A W : Type 0} (k : Mechanism A W Tick) (m : Module) (s : State) (w : W) (n : ℕ) (out : List A) where
+  -- how many of n ticks fit
+  abbrev countBy : ℕ
+  countBy = fit k (length out) w (ticksOf m n s)
+
+  pub fit-within : countBy ≤ n
+  fit-within = rw (length-ticks m n (s .song) (soundings (s .voices))) at (fit-le k (length out) w (ticksOf m n s))
+
+  first-ticks : take countBy (ticksOf m n s) ≡ ticksOf m countBy s
+  first-ticks = take-ticks m countBy n (s .song) (soundings (s .voices)) fit-within
+
+  pub first-fits : length (rendered k w (ticksOf m countBy s)) ≤ length out
+  first-fits = rw first-ticks at (fit-fits k (length out) w (ticksOf m n s))
+
+  pub first-most : (j : ℕ) → j ≤ n → length (rendered k w (ticksOf m j s)) ≤ length out → j ≤ countBy
+  first-most j h l =
+      fit-most k (length out) w (ticksOf m n s) j (rw (length-ticks m n (s .song) (soundings (s .voices))) h) (rw (take-ticks m j n (s .song) (soundings (s .voices)) h) l)
+
+  pub first-machine : afterFit k (length out) w (ticksOf m n s) ≡ afterAll k w (ticksOf m countBy s)
+  first-machine = rw first-ticks
+
+  pub first-out : playOut k w (ticksOf m n s) out ≡ over (rendered k w (ticksOf m countBy s)) out
+  unfolding playOut
+  first-out = rw first-ticks
+
+-- ---- the player's
+-- the state after k ticks
+abbrev pub ticked : Module → ℕ → State → State
+ticked m k s = stateAfter m k s (afterAll (mechanismOf m) (machineOf s) (ticksOf m k s))
+
+module _ (m : Module) (n : ℕ) (s : State) (out : List ℤ) where
+  -- no more than n ticks are played
+  pub count-le : countOf m n s out ≤ n
+  count-le = fit-within (mechanismOf m) m s (machineOf s) n out
+
+  -- their numbers fit the buffer
+  pub count-fits : roomOf m (countOf m n s out) s ≤ length out
+  count-fits = first-fits (mechanismOf m) m s (machineOf s) n out
+
+  -- and it is the largest such number: every k up to n whose numbers fit is at most the count
+  pub count-most : (k : ℕ) → k ≤ n → roomOf m k s ≤ length out → k ≤ countOf m n s out
+  count-most = first-most (mechanismOf m) m s (machineOf s) n out
+
+  -- the state after a play is that after as many ticks as the count
+  pub played-state : playedFrom m s n out .reply .state ≡ ticked m (countOf m n s out) s
+  unfolding playedFrom
+  played-state = rw (first-machine (mechanismOf m) m s (machineOf s) n out)
+
+  -- and its buffer has their numbers in front, the rest as it stood
+  pub played-out : playedFrom m s n out .out ≡ over (numbersOf m (countOf m n s out) s) out
+  unfolding playedFrom
+  played-out = first-out (mechanismOf m) m s (machineOf s) n out

@@ -1,0 +1,56 @@
+-- A record and a header at the front of the room: runs of stores that follow each other are one.
+-- Assumes nothing.
+use Prim.Native.Nat.{ℕ, _+_, _≤_, _<_}
+use mathlib.Core.Path.{_≡_, refl, ap, _∙_}
+use mathlib.Core.List.{List, _++_}
+use native.Mathlib.Omega.{arith}
+use native.Mathlib.Nat.{zero-add}
+use lib.ListN.{length, take, drop, set, length-set}
+use lib.Seq.{sets, sets-eq, length-sets}
+use Rattle.common.specs.Bytes.{fourBytes}
+use Rattle.ticks.specs.declared.Command.{Command}
+use Rattle.ticks.specs.declared.Tick.{Tick}
+use Rattle.ticks.specs.Play.{over}
+use Rattle.records.specs.Format.{versionPlace, countPlace, recordsPlace, headBytes, tempoPlace, mask, channelsBytes, recordBytes, streamHeader}
+
+front : (xs room : List ℕ) → length xs ≤ length room → sets room 0 xs ≡ over xs room
+front xs room h = sets-eq xs room 0 (omega arith) ∙ ap (λ (k : ℕ). xs ++ drop k room) (zero-add (length xs))
+
+-- ---- stores keep the room's length
+pub record-same : (room room′ xs : List ℕ) (m v : ℕ) → room′ ≡ sets (set (set room 0 m) tempoPlace v) headBytes xs → length room′ ≡ length room
+record-same room room′ xs m v e = rw e (simp (length-sets, length-set))
+
+pub header-same : (room room₁ room′ xs ys : List ℕ) (v : ℕ) → room₁ ≡ sets room 0 xs → room′ ≡ sets (set room₁ versionPlace v) countPlace ys → length room′ ≡ length room
+header-same room room₁ room′ xs ys v e q = rw (q, e) (simp (length-sets, length-set))
+
+-- ---- a record
+module _ (c : ℕ) (registers : List Command) (t : Tick) where
+  pub record-long : (n : ℕ) → n ≡ length (channelsBytes (take c registers) (t .commands)) → headBytes + n ≡ length (recordBytes c registers t)
+  unfolding recordBytes
+  record-long n e = omega arith
+
+  pub record-next : (n : ℕ) → n ≡ headBytes + length (channelsBytes (take c registers) (t .commands)) → n ≡ length (recordBytes c registers t)
+  record-next n e = e ∙ record-long (length (channelsBytes (take c registers) (t .commands))) refl
+
+  module _ (room : List ℕ) (h : length (recordBytes c registers t) ≤ length room) where
+    pub record-first : 0 < length room
+    record-first = omega (arith, record-long _ refl)
+
+    pub record-second : (m : ℕ) → tempoPlace < length (set room 0 m)
+    record-second m = simp length-set (omega (arith, record-long _ refl))
+
+    pub record-rest : (m v : ℕ) → headBytes + length (channelsBytes (take c registers) (t .commands)) ≤ length (set (set room 0 m) tempoPlace v)
+    record-rest m v = simp length-set (omega (arith, record-long _ refl))
+
+    pub record-done : (room′ : List ℕ) (m : ℕ) → m ≡ mask (take c registers) (t .commands)
+        → room′ ≡ sets (set (set room 0 m) tempoPlace (t .tempo)) headBytes (channelsBytes (take c registers) (t .commands)) → room′ ≡ over (recordBytes c registers t) room
+    record-done room′ m e o = o ∙ rw e (unfold recordBytes in front (recordBytes c registers t) room h)
+
+-- ---- a header
+module _ (v follow count : ℕ) (room room₁ : List ℕ) (h : recordsPlace ≤ length room) (e : room₁ ≡ sets room 0 (fourBytes follow)) where
+  pub header-rest : countPlace + 4 ≤ length (set room₁ versionPlace v)
+  header-rest = simp (length-set, e, length-sets) h
+
+  pub header-done : (room′ : List ℕ) → room′ ≡ sets (set room₁ versionPlace v) countPlace (fourBytes count) → room′ ≡ over (streamHeader v follow count) room
+  unfolding streamHeader fourBytes
+  header-done room′ o = o ∙ rw e (front (streamHeader v follow count) room h)

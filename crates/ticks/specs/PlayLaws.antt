@@ -1,0 +1,100 @@
+-- Playing on any machine: the ticks that are played fit (`fit-fits`), no larger number does (`fit-most`), and n ticks and then j are n + j (`play-append`).
+-- Assumes nothing.
+use Prim.Native.Nat.{ℕ, zero, suc, _+_, _-_, _≤_, _<_, zero-le, suc-le-suc}
+use mathlib.Core.Path.{_≡_, refl, sym, ap, _∙_}
+use mathlib.Core.List.{List, [], _∷_, _++_, append-assoc}
+use native.Mathlib.Nat.{zero-add, suc-add}
+use native.Mathlib.Omega.{arith}
+use lib.ListN.{length, take, drop, length-drop, length-append}
+use lib.Seq.{drop-drop, take-append-add}
+use lib.Dec.{leb}
+use borrow.Author.Tests.{le-leb, lt-leb, leb-true}
+use Rattle.laws.specs.Choice.{either}
+use Rattle.ticks.specs.Play.{Mechanism, afterAll, rendered, fit, playOut}
+
+module _ {A W T : Type 0} (m : Mechanism A W T) where
+  -- the ticks that are played fit
+  pub fit-fits : (room : ℕ) (w : W) (ts : List T) → length (rendered m w (take (fit m room w ts) ts)) ≤ room
+  unfolding rendered fit
+  fit-fits room w [] = zero-le
+  fit-fits room w (t ∷ ts) =
+      let k = fit m (room - m .size w t) (m .after w t) ts in
+      let rest = rendered m (m .after w t) (take k ts) in
+      either (λ (n : ℕ). length (rendered m w (take n (t ∷ ts))) ≤ room) (leb (m .size w t) room) (suc k) 0
+      (λ e. omega (arith, leb-true (m .size w t) room e, fit-fits (room - m .size w t) (m .after w t) ts, m .sized w t, length-append (m .frames w t) rest)) (λ _. zero-le)
+
+  -- and no larger number of the first ticks does
+  pub fit-most : (room : ℕ) (w : W) (ts : List T) (k : ℕ) → k ≤ length ts → length (rendered m w (take k ts)) ≤ room → k ≤ fit m room w ts
+  unfolding rendered fit
+  fit-most room w ts zero h p = zero-le
+  fit-most room w [] (suc k) h p = omega arith
+  fit-most room w (t ∷ ts) (suc k) h p =
+      let l : length (rendered m w (take (suc k) (t ∷ ts))) ≡ m .size w t + length (rendered m (m .after w t) (take k ts)) = length-append (m .frames w t) (rendered m (m .after w t) (take k ts)) ∙ ap (λ (n : ℕ). n + length (rendered m (m .after w t) (take k ts))) (m .sized w t) in
+      rw (le-leb (m .size w t) room (omega arith)) (suc-le-suc (fit-most (room - m .size w t) (m .after w t) ts k (omega arith) (omega arith)))
+
+  pub fit-le : (room : ℕ) (w : W) (ts : List T) → fit m room w ts ≤ length ts
+  unfolding fit
+  fit-le room w [] = zero-le
+  fit-le room w (t ∷ ts) = either (λ (k : ℕ). k ≤ suc (length ts)) (leb (m .size w t) room) _ _ (λ _. suc-le-suc (fit-le (room - m .size w t) (m .after w t) ts)) (λ _. zero-le)
+
+  pub fit-none : (room : ℕ) (w : W) → fit m room w [] ≡ 0
+  unfolding fit
+  fit-none room w = refl
+
+  pub fit-more : (room : ℕ) (w : W) (t : T) (ts : List T) → m .size w t ≤ room → fit m room w (t ∷ ts) ≡ suc (fit m (room - m .size w t) (m .after w t) ts)
+  unfolding fit
+  fit-more room w t ts h = rw (le-leb (m .size w t) room h)
+
+  pub fit-full : (room : ℕ) (w : W) (t : T) (ts : List T) → room < m .size w t → fit m room w (t ∷ ts) ≡ 0
+  unfolding fit
+  fit-full room w t ts h = rw (lt-leb (m .size w t) room h)
+
+  -- a list of ticks, and then another
+  pub after-append : (w : W) (ss ts : List T) → afterAll m w (ss ++ ts) ≡ afterAll m (afterAll m w ss) ts
+  unfolding afterAll
+  after-append w [] ts = refl
+  after-append w (s ∷ ss) ts = after-append (m .after w s) ss ts
+
+  pub rendered-append : (w : W) (ss ts : List T) → rendered m w (ss ++ ts) ≡ rendered m w ss ++ rendered m (afterAll m w ss) ts
+  unfolding rendered afterAll
+  rendered-append w [] ts = refl
+  rendered-append w (s ∷ ss) ts = ap (λ (xs : List A). m .frames w s ++ xs) (rendered-append (m .after w s) ss ts) ∙ sym (append-assoc (m .frames w s) (rendered m (m .after w s) ss) (rendered m (afterAll m (m .after w s) ss) ts))
+
+  pub play-none : (w : W) (buffer : List A) → playOut m w [] buffer ≡ buffer
+  unfolding playOut rendered fit
+  play-none w buffer = refl
+
+  -- a tick that fits is played, and the next go into the rest
+  pub play-more : (w : W) (t : T) (ts : List T) (buffer : List A) → m .size w t ≤ length buffer → playOut m w (t ∷ ts) buffer ≡ m .frames w t ++ playOut m (m .after w t) ts (drop (m .size w t) buffer)
+  unfolding playOut rendered fit
+  play-more w t ts buffer h =
+      let n : length (drop (m .size w t) buffer) ≡ length buffer - m .size w t = length-drop (m .size w t) buffer in
+      let rest = rendered m (m .after w t) (take (fit m (length buffer - m .size w t) (m .after w t) ts) ts) in
+      let d : drop (length (m .frames w t ++ rest)) buffer ≡ drop (length rest) (drop (m .size w t) buffer) =
+      ap (λ (k : ℕ). drop k buffer) (length-append (m .frames w t) rest ∙ ap (λ (k : ℕ). k + length rest) (m .sized w t)) ∙ sym (drop-drop (length rest) (m .size w t) buffer) in
+      rw (le-leb (m .size w t) (length buffer) h, n, d, append-assoc)
+
+  -- one that does not ends the play
+  pub play-full : (w : W) (t : T) (ts : List T) (buffer : List A) → length buffer < m .size w t → playOut m w (t ∷ ts) buffer ≡ buffer
+  unfolding playOut rendered fit
+  play-full w t ts buffer h = rw (lt-leb (m .size w t) (length buffer) h)
+
+  -- ---- playing a list of ticks that all fit, and then another, is playing both
+  pub fit-append : (room : ℕ) (w : W) (ss ts : List T) → length (rendered m w ss) ≤ room → fit m room w (ss ++ ts) ≡ length ss + fit m (room - length (rendered m w ss)) (afterAll m w ss) ts
+  unfolding rendered fit afterAll
+  fit-append room w [] ts h = let z : room - 0 ≡ room = omega arith in rw (z, zero-add)
+  fit-append room w (s ∷ ss) ts h =
+      let l : length (m .frames w s ++ rendered m (m .after w s) ss) ≡ m .size w s + length (rendered m (m .after w s) ss) = length-append (m .frames w s) (rendered m (m .after w s) ss) ∙ ap (λ (n : ℕ). n + length (rendered m (m .after w s) ss)) (m .sized w s) in
+      let r : room - length (m .frames w s ++ rendered m (m .after w s) ss) ≡ room - m .size w s - length (rendered m (m .after w s) ss) = omega arith in
+      rw (le-leb (m .size w s) room (omega arith), r, suc-add) (ap suc (fit-append (room - m .size w s) (m .after w s) ss ts (omega arith)))
+
+  pub play-append : (w : W) (ss ts : List T) (buffer : List A) → length (rendered m w ss) ≤ length buffer → playOut m w (ss ++ ts) buffer ≡ rendered m w ss ++ playOut m (afterAll m w ss) ts (drop (length (rendered m w ss)) buffer)
+  unfolding playOut
+  play-append w ss ts buffer h =
+      let xs = rendered m w ss in
+      let k = fit m (length buffer - length xs) (afterAll m w ss) ts in
+      let ys = rendered m (afterAll m w ss) (take k ts) in
+      let n : length (drop (length xs) buffer) ≡ length buffer - length xs = length-drop (length xs) buffer in
+      let r : rendered m w (take (fit m (length buffer) w (ss ++ ts)) (ss ++ ts)) ≡ xs ++ ys = rw (fit-append (length buffer) w ss ts h, take-append-add ss ts k, rendered-append w ss (take k ts)) in
+      let d : drop (length (xs ++ ys)) buffer ≡ drop (length ys) (drop (length xs) buffer) = ap (λ (i : ℕ). drop i buffer) (length-append xs ys) ∙ sym (drop-drop (length ys) (length xs) buffer) in
+      rw (r, n, d, append-assoc)

@@ -1,0 +1,96 @@
+-- Laws of the call: the stream by what its writing leaves, and what the call answers by its tests.
+-- Assumes nothing.
+use Prim.Native.Nat.{ℕ, _+_, _-_, _≤_, _<_, _^_}
+use mathlib.Core.Path.{_≡_, refl, sym, ap, _∙_}
+use mathlib.Core.List.{List}
+use native.Mathlib.Omega.{arith}
+use lib.ListN.{length, take, drop}
+use mir.Syntax.{w64}
+use mir.Val.{Fits}
+use borrow.Author.Tests.{eq-eqb, ne-eqb, lt-ltb, le-ltb}
+use borrow.Rule.Slice.PartMut.{putMid}
+use Rattle.laws.specs.Lent.{tail-long}
+use Rattle.common.specs.Answers.{outcome, refused, accepted, refusing}
+use Rattle.common.specs.Bytes.{fourBytes}
+use Rattle.common.specs.declared.Answer.{Answer}
+use Rattle.ticks.specs.Play.{over}
+use Rattle.reader.specs.declared.Layout.{Layout}
+use Rattle.reader.specs.File.{Module, lent, fourChannels, moduleOf, channelCount}
+use Rattle.reader.specs.Judge.{verdict}
+use Rattle.reader.specs.Accept.{accepted-by, verdict-answer}
+use Rattle.sequencer.specs.Songs.{freshSong, freshSounding}
+use Rattle.sequencer.specs.RunLaws.{length-ticks}
+use Rattle.records.specs.Format.{versionPlace, recordsPlace, version, atFirst, streamHeader, encodeAfter}
+use Rattle.records.specs.Length.{stream-length}
+use Rattle.translator.specs.Translate.{freshTicks, streamOf, mostTicks, written, translateOf, recordsOf}
+use Rattle.translator.specs.Streams.{translated}
+use Rattle.translator.proofs.Over.{over-before}
+
+-- ---- the stream: the records over the room's rest, and then the header at its front
+header-long : (v follow n : ℕ) → length (streamHeader v follow n) ≡ recordsPlace
+unfolding streamHeader fourBytes
+header-long v follow n = refl
+
+module _ (layout : Layout) (bytes : List ℕ) (n : ℕ) (room : List ℕ) (h : length (streamOf (lent layout bytes) n) ≤ length room) where
+  abbrev m : Module
+  m = lent layout bytes
+
+  long : length (streamOf m n) ≡ recordsPlace + length (recordsOf m n)
+  long = stream-length version (channelCount m) atFirst (freshTicks m n)
+
+  pub rest-inside : recordsPlace ≤ length room
+  rest-inside = omega (arith, long)
+
+  -- and so it does once the records are written
+  pub header-inside : (room′ : List ℕ) → length room′ ≡ length room → recordsPlace ≤ length room′
+  header-inside room′ e = omega (arith, rest-inside)
+
+  pub rest-fits : length (recordsOf (lent layout bytes) n) ≤ length (take (length room - recordsPlace) (drop recordsPlace room))
+  rest-fits = omega (arith, long, tail-long recordsPlace room)
+
+  module _ (l : ℕ) (e : l ≡ length (recordsOf (lent layout bytes) n)) where
+    pub stream-fits : length room < 2 ^ 64 → Fits w64 (recordsPlace + l)
+    stream-fits k = record { fits = omega (arith, long) }
+
+    module _ (part : List ℕ) (o : part ≡ over (recordsOf (lent layout bytes) n) (take (length room - recordsPlace) (drop recordsPlace room))) where
+      pub stream-written : (room′ : List ℕ) → room′ ≡ over (streamHeader version (recordsPlace + l - versionPlace) n) (putMid recordsPlace (length room - recordsPlace) room part)
+          → outcome (accepted (recordsPlace + l)) room′ ≡ written (lent layout bytes) n room
+      unfolding encodeAfter
+      stream-written room′ q =
+          let f : recordsPlace + l - versionPlace ≡ recordsPlace - versionPlace + length (recordsOf m n) = omega arith in
+          let s = streamHeader version (recordsPlace + l - versionPlace) n in
+          let w : room′ ≡ over (streamOf m n) room = q ∙ over-before recordsPlace s (recordsOf m n) room part (header-long _ _ _) rest-inside o ∙ rw (f, length-ticks m n freshSong freshSounding) in
+          rw (w, long, e)
+
+pub ruleset stream-laws = (rest-inside, header-inside, rest-fits, stream-fits, stream-written)
+
+-- ---- what the call answers, by its tests
+pub translate-fits : (layout : Layout) (bytes : List ℕ) (n len : ℕ) (room : List ℕ) → len ≡ length (streamOf (lent layout bytes) n) → len ≤ length room → length (streamOf (lent layout bytes) n) ≤ length room
+translate-fits layout bytes n len room l h = rw (← l) h
+
+module _ (layout : Layout) (bytes : List ℕ) (le : layout ≡ fourChannels) (v : Answer) (j : v ≡ verdict (lent layout bytes)) (n : ℕ) (room : List ℕ) where
+  here : v ≡ verdict (moduleOf bytes)
+  here = rw le at j
+
+  -- 1 to 9
+  pub translate-refused : (v .number ≡ 0 → ⊥) → outcome v room ≡ translateOf bytes n room
+  unfolding translateOf refusing
+  translate-refused h = rw (← here, ne-eqb (v .number) 0 h) (ap (λ (a : Answer). outcome a room) (here ∙ verdict-answer (moduleOf bytes) ∙ ap (λ (a : Answer). refused (a .number) (a .place)) (sym here)))
+
+  module _ (z : v .number ≡ 0) (r : Answer) where
+    -- 11
+    pub translate-many : mostTicks < n → r ≡ refused 11 0 → outcome r room ≡ translateOf bytes n room
+    unfolding translateOf refusing
+    translate-many h e = rw (e, ← here, eq-eqb (v .number) 0 z, lt-ltb mostTicks n h)
+
+    module _ (few : n ≤ mostTicks) (len : ℕ) (l : len ≡ length (streamOf (lent layout bytes) n)) where
+      -- 12
+      pub translate-short : length room < len → r ≡ refused 12 len → outcome r room ≡ translateOf bytes n room
+      unfolding translateOf refusing
+      translate-short h e = rw (e, ← here, eq-eqb (v .number) 0 z, le-ltb mostTicks n few, ← rw le at l, lt-ltb (length room) len h)
+
+      pub translate-all : len ≤ length room → (k : ℕ) (room′ : List ℕ) → outcome (accepted k) room′ ≡ written (lent layout bytes) n room → r ≡ accepted k → outcome r room′ ≡ translateOf bytes n room
+      translate-all h k room′ o e =
+          ap (λ (a : Answer). outcome a room′) e ∙ rw le at o ∙ sym (translated bytes n room (accepted-by (moduleOf bytes) v here z) few (rw le at (translate-fits layout bytes n len room l h)))
+
+pub ruleset call-laws = (accepted-by, translate-refused, translate-many, translate-short, translate-fits, translate-all)
