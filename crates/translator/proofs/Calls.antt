@@ -1,8 +1,9 @@
 -- Laws of the call: the stream by what its writing leaves, and what the call answers by its tests.
 -- Assumes nothing.
-use Prim.Native.Nat.{ℕ, _+_, _-_, _≤_, _<_, _^_}
+use Prim.Native.Nat.{ℕ, _+_, _-_, _*_, _≤_, _<_, _^_}
 use mathlib.Core.Path.{_≡_, refl, sym, ap, _∙_}
 use mathlib.Core.List.{List}
+use native.Mathlib.Nat.{mul-le-mul-right}
 use native.Mathlib.Omega.{arith}
 use lib.ListN.{length, take, drop}
 use mir.Syntax.{w64}
@@ -12,6 +13,7 @@ use borrow.Rule.Slice.PartMut.{putMid}
 use Rattle.laws.specs.Lent.{tail-long}
 use Rattle.common.specs.Answers.{outcome, refused, accepted, refusing}
 use Rattle.common.specs.Bytes.{fourBytes}
+use Rattle.common.specs.Limits.{width}
 use Rattle.common.specs.declared.Answer.{Answer}
 use Rattle.ticks.specs.Play.{over}
 use Rattle.reader.specs.declared.Layout.{Layout}
@@ -20,10 +22,10 @@ use Rattle.reader.specs.Judge.{verdict}
 use Rattle.reader.specs.Accept.{accepted-by, verdict-answer}
 use Rattle.sequencer.specs.Songs.{freshSong, freshSounding}
 use Rattle.sequencer.specs.RunLaws.{length-ticks}
-use Rattle.records.specs.Format.{versionPlace, recordsPlace, version, atFirst, streamHeader, encodeAfter}
+use Rattle.records.specs.Format.{versionPlace, recordsPlace, headBytes, bodyBytes, version, atFirst, streamHeader, encodeAfter}
 use Rattle.records.specs.Length.{stream-length}
-use Rattle.translator.specs.Translate.{freshTicks, streamOf, mostTicks, written, translateOf, recordsOf}
-use Rattle.translator.specs.Streams.{translated}
+use Rattle.translator.specs.Translate.{freshTicks, streamOf, mostTicks, written, translateOf, mostBytes, Asked, recordsOf}
+use Rattle.translator.specs.Streams.{stream-bound, translated}
 use Rattle.translator.proofs.Over.{over-before}
 
 -- ---- the stream: the records over the room's rest, and then the header at its front
@@ -64,9 +66,27 @@ module _ (layout : Layout) (bytes : List ℕ) (n : ℕ) (room : List ℕ) (h : l
 
 pub ruleset stream-laws = (rest-inside, header-inside, rest-fits, stream-fits, stream-written)
 
+-- ---- the length that a room is held against
+module _ (c n : ℕ) (h : c ≤ width) (k : n < 2 ^ 32) where
+  records-most : (headBytes + bodyBytes * c) * n ≤ (headBytes + bodyBytes * width) * n
+  records-most = mul-le-mul-right n (let l : headBytes + bodyBytes * c ≤ headBytes + bodyBytes * width = omega arith in l)
+
+  pub records-fit : Fits w64 ((headBytes + bodyBytes * c) * n)
+  records-fit = record { fits = omega (arith, records-most) }
+
+  pub most-fits : Fits w64 (mostBytes c n)
+  most-fits = record { fits = omega (arith, records-most) }
+
+pub asked-most : (layout : Layout) (bytes : List ℕ) (n room most : ℕ) → most ≡ mostBytes (layout .channels) n → most ≤ room → Asked (lent layout bytes) n room most
+asked-most layout bytes n room most e h =
+    record { short = λ l. let z : ⊥ = omega arith in absurd z; enough = λ l. omega (arith, stream-bound (lent layout bytes) (layout .channels) n (omega arith)) }
+
+pub asked-stream : (layout : Layout) (bytes : List ℕ) (n room len : ℕ) → len ≡ length (streamOf (lent layout bytes) n) → Asked (lent layout bytes) n room len
+asked-stream layout bytes n room len e = record { short = λ h. e; enough = λ h. rw (← e) h }
+
 -- ---- what the call answers, by its tests
-pub translate-fits : (layout : Layout) (bytes : List ℕ) (n len : ℕ) (room : List ℕ) → len ≡ length (streamOf (lent layout bytes) n) → len ≤ length room → length (streamOf (lent layout bytes) n) ≤ length room
-translate-fits layout bytes n len room l h = rw (← l) h
+pub translate-fits : (layout : Layout) (bytes : List ℕ) (n len : ℕ) (room : List ℕ) → Asked (lent layout bytes) n (length room) len → len ≤ length room → length (streamOf (lent layout bytes) n) ≤ length room
+translate-fits layout bytes n len room l h = l .enough h
 
 module _ (layout : Layout) (bytes : List ℕ) (le : layout ≡ fourChannels) (v : Answer) (j : v ≡ verdict (lent layout bytes)) (n : ℕ) (room : List ℕ) where
   here : v ≡ verdict (moduleOf bytes)
@@ -75,7 +95,9 @@ module _ (layout : Layout) (bytes : List ℕ) (le : layout ≡ fourChannels) (v 
   -- 1 to 9
   pub translate-refused : (v .number ≡ 0 → ⊥) → outcome v room ≡ translateOf bytes n room
   unfolding translateOf refusing
-  translate-refused h = rw (← here, ne-eqb (v .number) 0 h) (ap (λ (a : Answer). outcome a room) (here ∙ verdict-answer (moduleOf bytes) ∙ ap (λ (a : Answer). refused (a .number) (a .place)) (sym here)))
+  translate-refused h =
+      let e : v ≡ refused (v .number) (v .place) = rw here (verdict-answer (moduleOf bytes)) in
+      rw (← here, ne-eqb (v .number) 0 h) (ap (λ (a : Answer). outcome a room) e)
 
   module _ (z : v .number ≡ 0) (r : Answer) where
     -- 11
@@ -83,11 +105,11 @@ module _ (layout : Layout) (bytes : List ℕ) (le : layout ≡ fourChannels) (v 
     unfolding translateOf refusing
     translate-many h e = rw (e, ← here, eq-eqb (v .number) 0 z, lt-ltb mostTicks n h)
 
-    module _ (few : n ≤ mostTicks) (len : ℕ) (l : len ≡ length (streamOf (lent layout bytes) n)) where
+    module _ (few : n ≤ mostTicks) (len : ℕ) (l : Asked (lent layout bytes) n (length room) len) where
       -- 12
       pub translate-short : length room < len → r ≡ refused 12 len → outcome r room ≡ translateOf bytes n room
       unfolding translateOf refusing
-      translate-short h e = rw (e, ← here, eq-eqb (v .number) 0 z, le-ltb mostTicks n few, ← rw le at l, lt-ltb (length room) len h)
+      translate-short h e = rw (e, ← here, eq-eqb (v .number) 0 z, le-ltb mostTicks n few, ← rw le at (l .short h), lt-ltb (length room) len h)
 
       pub translate-all : len ≤ length room → (k : ℕ) (room′ : List ℕ) → outcome (accepted k) room′ ≡ written (lent layout bytes) n room → r ≡ accepted k → outcome r room′ ≡ translateOf bytes n room
       translate-all h k room′ o e =

@@ -3,6 +3,7 @@ ghost use mathlib.Core.Path.{_≡_};
 ghost use Prim.Native.Nat.{_≤_};
 ghost use lib.ListN.{length};
 ghost use Rattle.common.specs.Answers.{accepted, outcome};
+ghost use Rattle.common.specs.Limits.{width};
 ghost use Rattle.ticks.specs.Commands.{soundingOf};
 ghost use Rattle.reader.specs.Layouts.{LegalLayout};
 ghost use Rattle.sequencer.specs.LegalFacts.{LegalRun};
@@ -10,9 +11,11 @@ ghost use Rattle.ticks.specs.Play.{over};
 ghost use Rattle.reader.specs.File.{lent};
 ghost use Rattle.reader.specs.Judge.{verdict};
 ghost use Rattle.sequencer.specs.Songs.{tickOf};
-ghost use Rattle.translator.specs.Translate.{streamOf, written, recordsOf};
+ghost use Rattle.translator.specs.Translate.{streamOf, written, mostBytes, Asked, recordsOf};
 use common::limits::WIDTH;
 use reader::Layout;
+use records::BODY_BYTES;
+use records::HEAD_BYTES;
 use records::RECORDS_PLACE;
 use records::VERSION;
 use records::VERSION_PLACE;
@@ -31,7 +34,7 @@ fn next_tick(layout: Layout, file: &[u8], song: Song, registers: [Command; WIDTH
 }
 
 // How many bytes the stream of so many ticks has.
-pub fn stream_len(layout: Layout, file: &[u8], ticks: u32) -> usize
+fn stream_len(layout: Layout, file: &[u8], ticks: u32) -> usize
     requires layout { ⌜ LegalLayout layout ⌝ }
     requires judged { ⌜ verdict (lent layout (now file)) .number ≡ 0 ⌝ }
     ensures { λ n. ⌜ n ≡ length (streamOf (lent layout (now (file .entry))) ticks) ⌝ }
@@ -49,6 +52,27 @@ pub fn stream_len(layout: Layout, file: &[u8], ticks: u32) -> usize
         left -= 1;
     }
     RECORDS_PLACE + len
+}
+
+// The most bytes that a stream of so many ticks can have.
+fn most_len(channels: usize, ticks: u32) -> usize
+    requires { ⌜ channels ≤ width ⌝ }
+    ensures { λ n. ⌜ n ≡ mostBytes channels ticks ⌝ }
+{
+    RECORDS_PLACE + (HEAD_BYTES + BODY_BYTES * channels) * ticks as usize
+}
+
+// The length that a room of so many bytes is held against. No pass is needed where the room has the most that so many ticks can take.
+pub fn asked_len(layout: Layout, file: &[u8], ticks: u32, room: usize) -> usize
+    requires layout { ⌜ LegalLayout layout ⌝ }
+    requires judged { ⌜ verdict (lent layout (now file)) .number ≡ 0 ⌝ }
+    ensures { λ n. ⌜ Asked (lent layout (now (file .entry))) ticks room n ⌝ }
+{
+    let most = most_len(layout.channels, ticks);
+    if most <= room {
+        return most;
+    }
+    stream_len(layout, file, ticks)
 }
 
 // Writes the records of so many ticks at the front of the room, and returns their length.
