@@ -1,8 +1,11 @@
-//! A second player of paper 01, written from the paper alone, to compare the first one with.
+//! A second player of paper 01 and of the requests of paper 02 that have landed, written from the
+//! papers alone, to compare the first one with.
 
 pub mod generate;
+mod length;
 pub mod module;
 mod play;
+mod records;
 mod state;
 mod stream;
 mod voice;
@@ -10,15 +13,17 @@ mod work;
 
 use module::Module;
 
+pub use length::{tick_frames, tick_rest};
 pub use play::{change_page, fresh, play, touch, trace_tick, Trace};
-pub use stream::{decode, encode, play_stream, tick_list, translate, Command, Tick};
-pub use voice::{growth, tick_frames, Voice};
+pub use records::{decode, encode, Command, Stream, Tick};
+pub use stream::{play_stream, tick_list, translate};
+pub use voice::{growth, Voice};
 
 /// The numbers of a state where it is handed over: position, row, tick in row, delay, next
-/// position, next row, loop row, loop count, speed, tempo, clock, page; then for each channel
-/// latched sample, volume, period, target, slide memory, and of its voice sounding sample,
-/// period, volume, index, fraction, stopped (0 or 1).
-pub const STATE_CELLS: usize = 56;
+/// position, next row, loop row, loop count, speed, tempo, remainder, clock, page; then for each
+/// channel latched sample, volume, period, target, slide memory, and of its voice sounding
+/// sample, period, volume, index, fraction, stopped (0 or 1).
+pub const STATE_CELLS: usize = 57;
 
 /// What a call answers: the refusal's number and place, or number and place 0 and the count
 /// of ticks played or bytes written.

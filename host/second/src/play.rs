@@ -1,8 +1,9 @@
 //! Playing a module from a state: whole ticks that fit, touches, page changes and single ticks.
 
+use crate::length::tick_frames;
 use crate::module::Module;
 use crate::state::State;
-use crate::voice::{render, tick_frames, Voice, CHANNELS};
+use crate::voice::{render, Voice, CHANNELS};
 use crate::work::{finish, work};
 use crate::{Answer, STATE_CELLS};
 
@@ -27,7 +28,7 @@ pub fn play(file: &[u8], cells: &mut [u32; STATE_CELLS], ticks: u32, out: &mut [
     while played < ticks {
         let mut next = state;
         work(&module, &mut next);
-        let numbers = 2 * tick_frames(next.tempo);
+        let numbers = 2 * tick_frames(next.tempo, next.remainder);
         if numbers > out.len() - filled {
             break;
         }
@@ -109,7 +110,7 @@ pub fn trace_tick(file: &[u8], cells: &mut [u32; STATE_CELLS]) -> Result<Trace, 
         tick: state.tick,
         tempo: state.tempo,
         voices: state.voices,
-        frames: vec![0; 2 * tick_frames(state.tempo)],
+        frames: vec![0; 2 * tick_frames(state.tempo, state.remainder)],
     };
     render(&module, &mut state.voices, &mut trace.frames);
     finish(&mut state);

@@ -1,11 +1,12 @@
-//! The player's state, its 56 cells and which states are legal.
+//! The player's state, its 57 cells and which states are legal.
 
 use crate::module::{legal_period, Module, LAST_SAMPLE, LOUDEST};
 use crate::voice::{Voice, CHANNELS};
 use crate::{Answer, STATE_CELLS};
 
-const SONG_CELLS: usize = 12;
-const CHANNEL_CELLS: usize = 11;
+/// Cells before the first channel's.
+pub const SONG_CELLS: usize = 13;
+pub const CHANNEL_CELLS: usize = 11;
 
 #[derive(Clone, Copy, Debug, PartialEq, Eq)]
 pub struct Channel {
@@ -29,6 +30,8 @@ pub struct State {
     pub loop_count: u32,
     pub speed: u32,
     pub tempo: u32,
+    /// What the ticks at this tempo so far left over, below the tempo.
+    pub remainder: u32,
     pub clock: u32,
     pub page: u32,
     pub channels: [Channel; CHANNELS],
@@ -55,6 +58,7 @@ impl State {
             loop_count: 0,
             speed: 6,
             tempo: 125,
+            remainder: 0,
             clock: 0,
             page: 0,
             channels: [channel; CHANNELS],
@@ -75,8 +79,9 @@ impl State {
         state.loop_count = cells[7];
         state.speed = cells[8];
         state.tempo = cells[9];
-        state.clock = cells[10];
-        state.page = cells[11];
+        state.remainder = cells[10];
+        state.clock = cells[11];
+        state.page = cells[12];
         let mut flags_legal = true;
         for channel in 0..CHANNELS {
             let own = &cells[SONG_CELLS + CHANNEL_CELLS * channel..];
@@ -102,8 +107,9 @@ impl State {
         cells[7] = self.loop_count;
         cells[8] = self.speed;
         cells[9] = self.tempo;
-        cells[10] = self.clock;
-        cells[11] = self.page;
+        cells[10] = self.remainder;
+        cells[11] = self.clock;
+        cells[12] = self.page;
         for channel in 0..CHANNELS {
             let own = &mut cells[SONG_CELLS + CHANNEL_CELLS * channel..];
             write_channel(&self.channels[channel], own);
@@ -119,6 +125,9 @@ impl State {
             return false;
         }
         if self.speed < 1 || self.speed > 31 || self.tempo < 32 || self.tempo > 255 {
+            return false;
+        }
+        if self.remainder >= self.tempo {
             return false;
         }
         if self.delay > 15 || self.loop_count > 15 {

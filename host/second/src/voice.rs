@@ -106,11 +106,6 @@ pub fn growth(period: u32) -> u32 {
     (35_468_946 * 65_536 / (480_000 * u64::from(period))) as u32
 }
 
-/// The frames of a tick at this tempo.
-pub fn tick_frames(tempo: u32) -> usize {
-    120_000 / tempo as usize
-}
-
 /// Fills `out`, two numbers a frame, and moves the voices.
 pub fn render(module: &Module, voices: &mut [Voice; CHANNELS], out: &mut [i16]) {
     let growths = voices.map(|voice| growth(voice.period));

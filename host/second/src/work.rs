@@ -1,5 +1,6 @@
 //! The work of one tick: the row's notes and effects, the next place, and the later ticks' slides.
 
+use crate::length::{carried, tick_rest};
 use crate::module::{Cell, Module, HIGHEST_PERIOD, LOUDEST, LOWEST_PERIOD};
 use crate::state::State;
 use crate::voice::CHANNELS;
@@ -24,6 +25,7 @@ struct Flow {
 /// Does all work of the state's tick up to its frames.
 pub fn work(module: &Module, state: &mut State) -> Starts {
     let mut starts = [None; CHANNELS];
+    let tempo_before = state.tempo;
     if state.tick == 0 {
         row_work(module, state, &mut starts);
     }
@@ -36,11 +38,14 @@ pub fn work(module: &Module, state: &mut State) -> Starts {
         state.voices[channel].volume = state.channels[channel].volume;
         state.voices[channel].period = sounded_period(state.channels[channel].period, &cell, t);
     }
+    state.remainder = carried(state.remainder, tempo_before, state.tempo);
     starts
 }
 
-/// After the frames: moves the clock and the tick, and at the row's end takes the next place.
+/// After the frames: keeps their remainder, moves the clock and the tick, and at the row's end
+/// takes the next place.
 pub fn finish(state: &mut State) {
+    state.remainder = tick_rest(state.tempo, state.remainder);
     state.clock = state.clock.wrapping_add(1);
     state.tick += 1;
     if state.tick == state.speed * (1 + state.delay) {

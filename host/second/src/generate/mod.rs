@@ -1,5 +1,6 @@
 //! Seeded makers of files, states, touches and streams; the same seed always makes the same.
 
+mod bad_streams;
 mod cells;
 pub mod damage;
 pub mod draft;
@@ -8,6 +9,8 @@ mod random;
 mod scenes;
 pub mod states;
 pub mod streams;
+pub mod tempos;
+pub mod touches;
 
 pub use random::Random;
 

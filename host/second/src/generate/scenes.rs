@@ -160,14 +160,14 @@ fn slides_to_limits(random: &mut Random, row: &mut [Cell]) {
     }
 }
 
-/// F on several channels; of two speeds or two tempos the later counts.
+/// F on several channels; of two speeds or two tempos the later counts, which may be the old one.
 fn speeds(random: &mut Random, row: &mut [Cell]) {
+    let codes = [
+        0xF00, 0xF01, 0xF02, 0xF1F, 0xF20, 0xF21, 0xF7D, 0xF7D, 0xFFE, 0xFFF,
+    ];
     for cell in row {
         if random.chance(70) {
-            put_effect(
-                cell,
-                random.pick(&[0xF00, 0xF01, 0xF02, 0xF1F, 0xF20, 0xF7D, 0xFFF]),
-            );
+            put_effect(cell, random.pick(&codes));
         }
     }
 }

@@ -1,21 +1,10 @@
-//! Legal states of an accepted module over their whole range, illegal ones, and touches.
+//! Legal states of an accepted module over their whole range, and illegal ones.
 
 use super::{cells, Random};
 use crate::module::Module;
-use crate::state::{Channel, State};
+use crate::state::{Channel, State, CHANNEL_CELLS, SONG_CELLS};
 use crate::voice::Voice;
 use crate::STATE_CELLS;
-
-const SONG_CELLS: usize = 12;
-const CHANNEL_CELLS: usize = 11;
-
-/// What a touch carries.
-#[derive(Clone, Copy, Debug, PartialEq, Eq)]
-pub struct Touch {
-    pub page: u32,
-    pub made: u32,
-    pub position: u32,
-}
 
 /// The cells of a legal state; `file` is accepted.
 pub fn legal_state(seed: u64, file: &[u8]) -> [u32; STATE_CELLS] {
@@ -53,43 +42,7 @@ pub fn illegal_state(seed: u64, file: &[u8]) -> [u32; STATE_CELLS] {
     cells
 }
 
-/// A touch, good or refused, for a state of an accepted module.
-pub fn touch(seed: u64, file: &[u8], state: &[u32; STATE_CELLS]) -> Touch {
-    let mut random = Random::new(seed);
-    let song_length = accepted(file).song_length;
-    let (clock, page) = (state[10], state[11]);
-    let near = [0, 1, 24, 25, 26, 27, u32::MAX, u32::MAX - 1, 1 << 31];
-    let age = if random.chance(60) {
-        random.between(0, 25)
-    } else {
-        random.pick(&near)
-    };
-    let other = [page.wrapping_add(1), page.wrapping_sub(1), 0, u32::MAX];
-    let past = [
-        song_length,
-        song_length + 1,
-        128,
-        255,
-        256,
-        song_length + 256,
-        u32::MAX,
-    ];
-    Touch {
-        page: if random.chance(80) {
-            page
-        } else {
-            random.pick(&other)
-        },
-        made: clock.wrapping_sub(age),
-        position: if random.chance(75) {
-            random.edge_or(&[0, song_length - 1], 0, song_length - 1)
-        } else {
-            random.pick(&past)
-        },
-    }
-}
-
-fn accepted(file: &[u8]) -> Module<'_> {
+pub(super) fn accepted(file: &[u8]) -> Module<'_> {
     Module::read(file).expect("the file is accepted")
 }
 
@@ -123,7 +76,8 @@ fn fill_song(random: &mut Random, state: &mut State, song_length: u32) {
     state.loop_row = legal_row(random);
     state.loop_count = random.edge_or(&[0, 1, 15], 0, 15);
     state.speed = random.edge_or(&[1, 2, 3, 6, 31], 1, 31);
-    state.tempo = random.edge_or(&[32, 125, 255, 255], 32, 255);
+    state.tempo = random.edge_or(&[32, 33, 125, 254, 255, 255], 32, 255);
+    state.remainder = random.edge_or(&[0, 1, state.tempo - 1], 0, state.tempo - 1);
     state.delay = random.edge_or(&[0, 0, 1, 15], 0, 15);
     let last_tick = state.speed * (1 + state.delay) - 1;
     state.tick = random.edge_or(&[0, 0, last_tick], 0, last_tick);
@@ -189,13 +143,14 @@ fn bad_period(random: &mut Random) -> u32 {
 }
 
 fn break_song(random: &mut Random, cells: &mut [u32; STATE_CELLS], song_length: u32) {
-    match random.below(7) {
+    match random.below(8) {
         0 => cells[random.pick(&[0, 4])] = past(random, song_length),
         1 => cells[random.pick(&[1, 5, 6])] = past(random, 64),
         2 => cells[2] = past(random, cells[8] * (1 + cells[3])),
         3 => cells[random.pick(&[3, 7])] = past(random, 16),
         4 => cells[8] = past(random, 32),
         5 => cells[9] = past(random, 256),
+        6 => cells[10] = past(random, cells[9]),
         _ => {
             let (cell, below) = random.pick(&[(8, 0), (9, 0), (9, 31)]);
             cells[cell] = below;

@@ -1,11 +1,11 @@
 //! Lent states, touches, page changes and the order of refusals.
 
 use crate::common::*;
-use second::{change_page, fresh, play, play_stream, touch, translate};
+use second::{change_page, fresh, play, play_stream, touch, translate, STATE_CELLS};
 
 #[test]
 fn fresh_is_the_papers() {
-    let mut expected = [0; 56];
+    let mut expected = [0; STATE_CELLS];
     expected[SPEED] = 6;
     expected[TEMPO] = 125;
     for channel in 1..=4 {
@@ -48,6 +48,7 @@ fn legal_numbers_and_their_neighbours() {
         (TICK, 5),
         (SPEED, 31),
         (TEMPO, 255),
+        (REMAINDER, 124),
         (at(4, LATCHED), 31),
         (at(4, VOLUME), 64),
         (at(4, PERIOD), 856),
@@ -190,12 +191,12 @@ fn clock_and_page_wrap() {
 fn the_module_is_judged_first_in_every_call() {
     let mut file = song().bytes();
     file[950] = 0;
-    let mut cells = [u32::MAX; 56];
+    let mut cells = [u32::MAX; STATE_CELLS];
     let expected = refused(3, 950);
     assert_eq!(play(&file, &mut cells, 1, &mut [0; 9]), expected);
     assert_eq!(touch(&file, &mut cells, 1, 1, 1), expected);
     assert_eq!(change_page(&file, &mut cells), expected);
     assert_eq!(translate(&file, 65_536, &mut []), expected);
     assert_eq!(play_stream(&[], &file, &mut []), expected);
-    assert_eq!(cells, [u32::MAX; 56]);
+    assert_eq!(cells, [u32::MAX; STATE_CELLS]);
 }

@@ -2,7 +2,7 @@
 
 use crate::common::*;
 use second::generate::draft::Draft;
-use second::{fresh, growth, judge, play, tick_frames, touch, translate};
+use second::{fresh, growth, judge, play, play_stream, tick_frames, touch, translate};
 
 #[test]
 fn p1_to_p3_steps() {
@@ -15,7 +15,7 @@ fn p1_to_p3_steps() {
 #[test]
 fn p4_to_p6_frames() {
     assert_eq!(
-        [tick_frames(125), tick_frames(32), tick_frames(255)],
+        [tick_frames(125, 0), tick_frames(32, 0), tick_frames(255, 0)],
         [960, 3_750, 470]
     );
 }
@@ -119,18 +119,44 @@ fn run_only_cases() {
     assert_eq!(out[1_920], 7);
 }
 
-#[test]
-fn both_whole_streams() {
-    let mut room = [0xAA; 20];
-    assert_eq!(translate(&song().bytes(), 1, &mut room), played(11));
-    assert_eq!(room[..11], [0, 0, 0, 7, 1, 0, 0, 0, 1, 0, 0x7D]);
-    assert_eq!(room[11..], [0xAA; 9]);
+/// The paper's two whole streams, of version 1.
+const EMPTY_ROW: [u8; 11] = [0, 0, 0, 7, 1, 0, 0, 0, 1, 0, 0x7D];
+const ONE_NOTE: [u8; 17] = [0, 0, 0, 13, 1, 0, 0, 0, 1, 1, 0x7D, 1, 0x40, 1, 0xAC, 1, 0];
 
+/// A module whose first row has the second stream's note.
+fn one_note() -> Draft {
     let mut draft = Draft::empty();
     draft.add_sample(1, 64, &[1; 8]);
     draft.put(0, 0, 0, 1, 428, 0);
-    assert_eq!(translate(&draft.bytes(), 1, &mut room), played(17));
-    let expected = [0, 0, 0, 13, 1, 0, 0, 0, 1, 1, 0x7D, 1, 0x40, 1, 0xAC, 1, 0];
-    assert_eq!(room[..17], expected);
+    draft
+}
+
+#[test]
+fn both_whole_streams_play_as_version_1() {
+    let mut out = [7; 1_921];
+    let empty = Draft::empty().bytes();
+    assert_eq!(play_stream(&EMPTY_ROW, &empty, &mut out), played(1));
+    assert_eq!(out[..1_920], [0; 1_920]);
+    assert_eq!(out[1_920], 7);
+    let file = one_note().bytes();
+    let mut frames = [7; 1_921];
+    assert_eq!(play_stream(&ONE_NOTE, &file, &mut out), played(1));
+    assert_eq!(play(&file, &mut fresh(), 1, &mut frames), played(1));
+    assert_eq!(frames[24..26], [128, 0]);
+    assert_eq!(out, frames);
+}
+
+#[test]
+fn translation_gives_both_as_version_2() {
+    let mut room = [0xAA; 20];
+    assert_eq!(translate(&song().bytes(), 1, &mut room), played(11));
+    assert_eq!(room[4], 2);
+    assert_eq!(room[..4], EMPTY_ROW[..4]);
+    assert_eq!(room[5..11], EMPTY_ROW[5..]);
+    assert_eq!(room[11..], [0xAA; 9]);
+    assert_eq!(translate(&one_note().bytes(), 1, &mut room), played(17));
+    assert_eq!(room[4], 2);
+    assert_eq!(room[..4], ONE_NOTE[..4]);
+    assert_eq!(room[5..17], ONE_NOTE[5..]);
     assert_eq!(room[17..], [0xAA; 3]);
 }

@@ -13,8 +13,9 @@ pub const LOOP_ROW: usize = 6;
 pub const LOOP_COUNT: usize = 7;
 pub const SPEED: usize = 8;
 pub const TEMPO: usize = 9;
-pub const CLOCK: usize = 10;
-pub const PAGE: usize = 11;
+pub const REMAINDER: usize = 10;
+pub const CLOCK: usize = 11;
+pub const PAGE: usize = 12;
 
 /// Channel cells, counted from the channel's first.
 pub const LATCHED: usize = 0;
@@ -55,7 +56,7 @@ pub fn played(count: u64) -> Answer {
 
 /// The place of a channel's cell in the state, channels counted from 1 as in the paper.
 pub fn at(channel: usize, cell: usize) -> usize {
-    12 + 11 * (channel - 1) + cell
+    13 + 11 * (channel - 1) + cell
 }
 
 /// Sample 1: 20 words of 100, volume 40. Sample 2: 300 words of 50, looped from word 100 to
@@ -114,6 +115,15 @@ pub fn places(draft: &Draft, ticks: usize) -> Vec<(u32, u32)> {
         }
     }
     places
+}
+
+/// A stream of these records.
+pub fn stream(version: u8, count: u32, records: &[u8]) -> Vec<u8> {
+    let mut stream = (5 + records.len() as u32).to_be_bytes().to_vec();
+    stream.push(version);
+    stream.extend_from_slice(&count.to_be_bytes());
+    stream.extend_from_slice(records);
+    stream
 }
 
 /// The sounded periods of channel 1, tick by tick.

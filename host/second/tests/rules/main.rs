@@ -1,10 +1,11 @@
-//! The paper's rules one by one, each shown on a small module built for it.
+//! The papers' rules one by one, each shown on a small module built for it.
 
 mod calls;
 mod cases;
 mod common;
 mod effects;
 mod flow;
+mod lengths;
 mod notes;
 mod streams;
 mod voices;

@@ -1,7 +1,7 @@
 //! Translation, the stream's records and their refusals.
 
 use crate::common::*;
-use second::{decode, play_stream, tick_list, translate};
+use second::{decode, play_stream, tick_list, translate, Stream};
 
 #[test]
 fn translation_is_judged_11_before_12() {
@@ -16,41 +16,60 @@ fn translation_is_judged_11_before_12() {
     assert_eq!(room, [5; 8]);
     let mut room = [5; 10];
     assert_eq!(translate(&file, 0, &mut room), played(9));
-    assert_eq!(room, [0, 0, 0, 5, 1, 0, 0, 0, 0, 5]);
-}
-
-/// A stream of these records.
-fn stream(count: u32, records: &[u8]) -> Vec<u8> {
-    let mut stream = (5 + records.len() as u32).to_be_bytes().to_vec();
-    stream.push(1);
-    stream.extend_from_slice(&count.to_be_bytes());
-    stream.extend_from_slice(records);
-    stream
+    assert_eq!(room, [0, 0, 0, 5, 2, 0, 0, 0, 0, 5]);
 }
 
 /// The answer to a stream of these records, with room for two ticks at tempo 125.
 fn answer(count: u32, records: &[u8]) -> second::Answer {
-    play_stream(&stream(count, records), &song().bytes(), &mut [0; 3_840])
+    play_stream(&stream(2, count, records), &song().bytes(), &mut [0; 3_840])
 }
 
 #[test]
-fn lengths_and_version() {
+fn a_stream_has_9_bytes_and_the_length_it_says() {
     let file = song().bytes();
-    let good = stream(0, &[]);
-    assert_eq!(play_stream(&good, &file, &mut []), played(0));
-    assert_eq!(play_stream(&good[..8], &file, &mut []), refused(21, 8));
-    assert_eq!(play_stream(&[], &file, &mut []), refused(21, 0));
-    assert_eq!(
-        play_stream(&[0, 0, 0, 4, 1, 0, 0, 0], &file, &mut []),
-        refused(21, 8)
-    );
-    let mut wrong = good.clone();
-    wrong[3] = 6;
-    wrong[4] = 0;
-    assert_eq!(play_stream(&wrong, &file, &mut []), refused(21, 9));
-    let mut wrong = stream(7, &[255]);
-    wrong[4] = 0;
-    assert_eq!(play_stream(&wrong, &file, &mut []), refused(22, 4));
+    for version in [1, 2] {
+        let good = stream(version, 0, &[]);
+        assert_eq!(play_stream(&good, &file, &mut []), played(0));
+        for kept in 0..9 {
+            let short = &good[..kept];
+            assert_eq!(play_stream(short, &file, &mut []), refused(21, kept as u64));
+        }
+        // Eight bytes that say so themselves.
+        assert_eq!(
+            play_stream(&[0, 0, 0, 4, version, 0, 0, 0], &file, &mut []),
+            refused(21, 8)
+        );
+        for wrong in [[0, 0, 0, 4], [0, 0, 0, 6], [1, 0, 0, 5]] {
+            let mut stream = good.clone();
+            stream[..4].copy_from_slice(&wrong);
+            assert_eq!(play_stream(&stream, &file, &mut []), refused(21, 9));
+        }
+    }
+}
+
+#[test]
+fn versions_other_than_1_and_2_are_refused() {
+    let file = song().bytes();
+    for version in 0..=255 {
+        let expected = if version == 1 || version == 2 {
+            played(0)
+        } else {
+            refused(22, 4)
+        };
+        let good = stream(version, 0, &[]);
+        assert_eq!(play_stream(&good, &file, &mut []), expected);
+    }
+}
+
+#[test]
+fn a_version_is_judged_after_the_length_and_before_the_records() {
+    let file = song().bytes();
+    for version in [0, 3, 255] {
+        let mut wrong = stream(version, 7, &[255]);
+        assert_eq!(play_stream(&wrong, &file, &mut []), refused(22, 4));
+        wrong[3] = 7;
+        assert_eq!(play_stream(&wrong, &file, &mut []), refused(21, 10));
+    }
 }
 
 #[test]
@@ -105,10 +124,10 @@ fn records_run_out_and_bytes_are_left() {
 fn records_past_the_room_are_judged() {
     let file = song().bytes();
     let mut out = [3; 2_000];
-    let bad = stream(3, &[0, 125, 0, 125, 0, 31]);
+    let bad = stream(2, 3, &[0, 125, 0, 125, 0, 31]);
     assert_eq!(play_stream(&bad, &file, &mut out), refused(23, 13));
     assert_eq!(out, [3; 2_000]);
-    let good = stream(3, &[0, 125, 0, 125, 0, 32]);
+    let good = stream(2, 3, &[0, 125, 0, 125, 0, 32]);
     assert_eq!(play_stream(&good, &file, &mut out), played(1));
     assert_eq!(out[..1_920], [0; 1_920]);
     assert_eq!(out[1_920..], [3; 80]);
@@ -127,9 +146,9 @@ fn a_set_bit_without_change_plays_on() {
     let again = [1, 125, 2, 64, 1, 172, 0, 0];
     let mut with = [0; 3_840];
     let mut without = [0; 3_840];
-    play_stream(&stream(2, &[first, again].concat()), &file, &mut with);
+    play_stream(&stream(2, 2, &[first, again].concat()), &file, &mut with);
     play_stream(
-        &stream(2, &[&first[..], &[0, 125]].concat()),
+        &stream(2, 2, &[&first[..], &[0, 125]].concat()),
         &file,
         &mut without,
     );
@@ -148,5 +167,9 @@ fn decoding_gives_the_translated_ticks() {
     let file = draft.bytes();
     let mut room = [0; 500];
     let count = translate(&file, 9, &mut room).count as usize;
-    assert_eq!(decode(&room[..count]), tick_list(&file, 9));
+    let expected = Stream {
+        version: 2,
+        ticks: tick_list(&file, 9).expect("accepted"),
+    };
+    assert_eq!(decode(&room[..count]), Ok(expected));
 }

@@ -1,10 +1,9 @@
 //! Generated streams: legal ones play, aimed ones get their refusal, damaged ones change nothing.
 
+use crate::common::{accepted, fitting, lengths, refused, UNTOUCHED};
 use second::generate::modules::{module, Size};
 use second::generate::streams::{bad_stream, damaged_stream, legal_stream};
-use second::{decode, encode, play_stream, tick_frames, tick_list, translate, Answer};
-
-const UNTOUCHED: i16 = 12_345;
+use second::{decode, encode, play_stream, tick_list, translate, Stream};
 
 fn file(seed: u64) -> Vec<u8> {
     module(
@@ -17,30 +16,30 @@ fn file(seed: u64) -> Vec<u8> {
     )
 }
 
+/// The frames of a stream's ticks, by its version.
+fn stream_lengths(stream: &Stream) -> Vec<usize> {
+    let tempos: Vec<u32> = stream.ticks.iter().map(|tick| tick.tempo).collect();
+    if stream.version == 1 {
+        tempos
+            .iter()
+            .map(|&tempo| 120_000 / tempo as usize)
+            .collect()
+    } else {
+        lengths(&tempos)
+    }
+}
+
 #[test]
 fn legal_streams_play_all_that_fits() {
     for seed in 0..1_500 {
         let file = file(seed);
         let stream = legal_stream(seed, &file);
-        let ticks = decode(&stream).expect("legal");
+        let lengths = stream_lengths(&decode(&stream).expect("legal"));
         let mut out = vec![UNTOUCHED; seed as usize * 37 % 40_000];
-        let answer = play_stream(&stream, &file, &mut out);
-        let mut filled = 0;
-        let mut count = 0;
-        for tick in &ticks {
-            if filled + 2 * tick_frames(tick.tempo) > out.len() {
-                break;
-            }
-            filled += 2 * tick_frames(tick.tempo);
-            count += 1;
-        }
+        let (fit, filled) = fitting(&lengths, 2, out.len());
         assert_eq!(
-            answer,
-            Answer {
-                number: 0,
-                place: 0,
-                count
-            },
+            play_stream(&stream, &file, &mut out),
+            accepted(fit as u64),
             "seed {seed}"
         );
         assert!(
@@ -55,10 +54,10 @@ fn a_stream_rewritten_sounds_the_same() {
     for seed in 0..500 {
         let file = file(seed);
         let stream = legal_stream(seed, &file);
-        let ticks = decode(&stream).expect("legal");
-        let shortest = encode(&ticks);
+        let read = decode(&stream).expect("legal");
+        let shortest = encode(&read);
         assert!(shortest.len() <= stream.len(), "seed {seed}");
-        assert_eq!(decode(&shortest).as_ref(), Ok(&ticks), "seed {seed}");
+        assert_eq!(decode(&shortest).as_ref(), Ok(&read), "seed {seed}");
         let mut one = vec![0; 20_000];
         let mut other = one.clone();
         let answer = play_stream(&stream, &file, &mut one);
@@ -78,11 +77,11 @@ fn translations_decode_to_their_ticks() {
         let ticks = (seed % 97) as u32;
         let mut room = vec![0; 9 + 26 * ticks as usize];
         let bytes = translate(&file, ticks, &mut room).count as usize;
-        assert_eq!(
-            decode(&room[..bytes]),
-            tick_list(&file, ticks),
-            "seed {seed}"
-        );
+        let expected = Stream {
+            version: 2,
+            ticks: tick_list(&file, ticks).expect("accepted"),
+        };
+        assert_eq!(decode(&room[..bytes]), Ok(expected), "seed {seed}");
     }
 }
 
@@ -92,15 +91,10 @@ fn bad_streams_get_their_refusal() {
     for seed in 0..12_000 {
         let file = module(seed % 50, Size::Small);
         let bad = bad_stream(seed, &file);
-        let expected = Answer {
-            number: bad.number,
-            place: bad.place,
-            count: 0,
-        };
         let mut out = [UNTOUCHED; 1_000];
         assert_eq!(
             play_stream(&bad.bytes, &file, &mut out),
-            expected,
+            refused(bad.number, bad.place),
             "seed {seed}"
         );
         assert_eq!(out, [UNTOUCHED; 1_000], "seed {seed}");

@@ -1,0 +1,7 @@
+//! Generated modules, states, touches and streams: what holds of all of them.
+
+mod common;
+mod lengths;
+mod playing;
+mod states;
+mod streams;
