@@ -3,6 +3,7 @@
 -- Assumes nothing.
 use Prim.Native.Nat.{ℕ, _≤_}
 use mathlib.Core.Path.{_≡_, refl, sym, ap, _∙_}
+use mathlib.Core.Bool.{true}
 use mathlib.Core.List.{List}
 use native.Mathlib.Omega.{arith}
 use lib.IntN.{ℤ}
@@ -29,7 +30,7 @@ use Rattle.player.specs.Play.{soundings, machineOf, ticksOf, countOf, playedFro
 use Rattle.player.specs.Kept.{fresh-state, fresh-soundings}
 use Rattle.player.specs.Keeps.{play-accepted}
 use Rattle.translator.specs.Translate.{mostTicks, freshTicks, streamOf, written}
-use Rattle.translator.specs.Streams.{decode-stream, translated}
+use Rattle.translator.specs.Streams.{stream-keeps, decode-stream, translated}
 use Rattle.board.specs.Board.{playedTicks, playedBy, playStreamOf}
 use Rattle.agreement.specs.Demand.{Calls, soundOf, Sounds, Agreement}
 use Rattle.agreement.specs.Plays.{plays-sounds}
@@ -48,15 +49,15 @@ module _ (bytes : List ℕ) (n : ℕ) (e : verdict (moduleOf bytes) .number ≡ 
   player-accepts : (out : List ℤ) → playOf bytes freshState n out ≡ playedFrom m freshState n out
   player-accepts out = play-accepted bytes e freshState (fresh-state m (module-legal bytes) e) n out
 
-  -- the board answers and leaves what the player does
-  streamed-as-played : (out : List ℤ) → playedTicks (channelCount m) (samplesOf m) (ticksOf m n freshState) out ≡ outcome (playedFrom m freshState n out .reply .answer) (playedFrom m freshState n out .out)
-  unfolding playedTicks playedFrom freshState freshMachine
+  -- the board answers and leaves what the player does where its stream keeps a remainder
+  streamed-as-played : (out : List ℤ) → playedTicks true (channelCount m) (samplesOf m) (ticksOf m n freshState) out ≡ outcome (playedFrom m freshState n out .reply .answer) (playedFrom m freshState n out .out)
+  unfolding playedTicks playedFrom freshState freshSong freshMachine
   streamed-as-played out = refl
 
   board-as-player : (out : List ℤ) → playStreamOf bytes (streamOf m n) out ≡ outcome (playOf bytes freshState n out .reply .answer) (playOf bytes freshState n out .out)
   unfolding playStreamOf refusing playedBy
   board-as-player out =
-      rw (eq-eqb (verdict m .number) 0 e, decode-stream m (record { layout = module-legal bytes; judged = e; bytes = b }) n few, ← fresh-ticks m n, player-accepts out) (streamed-as-played out)
+      rw (eq-eqb (verdict m .number) 0 e, stream-keeps m n, decode-stream m (record { layout = module-legal bytes; judged = e; bytes = b }) n few, ← fresh-ticks m n, player-accepts out) (streamed-as-played out)
 
   -- what is left by an answer and an output that are the player's
   sounds-by : (answer : Answer) (out out′ : List ℤ) → outcome answer out′ ≡ outcome (playOf bytes freshState n out .reply .answer) (playOf bytes freshState n out .out) → Sounds (soundOf bytes) n (answer .number) (answer .place) (answer .count) out out′

@@ -11,7 +11,7 @@ use Rattle.reader.specs.File.{lent, fourChannels, moduleOf}
 use Rattle.reader.specs.Judge.{verdict}
 use Rattle.reader.specs.declared.Layout.{Layout}
 use Rattle.voice.specs.Voice.{samplesOf}
-use Rattle.records.specs.Format.{Decoded, refusal, ticks, decode}
+use Rattle.records.specs.Format.{keeps, Decoded, refusal, ticks, decode}
 use Rattle.decoder.specs.Answers.{answerOf}
 use Rattle.board.specs.Board.{playedBy, boardOf, playStreamOf}
 
@@ -32,6 +32,6 @@ module _ (layout : Layout) (bytes s : List ℕ) (out : List ℤ) (v : Answer) (e
     unfolding playedBy answerOf
     stream-refused last u a l f n q = stream-played a out (go (decode (layout .samples) (layout .channels) s) (rw l at f))
       where
-        go : (d : Decoded) → u ≡ answerOf d → outcome a out ≡ playedBy (layout .channels) (samplesOf (lent layout bytes)) d out
+        go : (d : Decoded) → u ≡ answerOf d → outcome a out ≡ playedBy (keeps s) (layout .channels) (samplesOf (lent layout bytes)) d out
         go (refusal number place) x = rw (q, x)
         go (ticks ts) x = absurd (n (ap (λ (y : Answer). y .number) x))

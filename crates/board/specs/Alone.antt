@@ -2,7 +2,7 @@
 -- Assumes nothing.
 use Prim.Native.Nat.{ℕ, zero, suc, _-_, _≤_, _<_}
 use mathlib.Core.Path.{_≡_, refl, sym, ap, ap₂, _∙_}
-use mathlib.Core.Bool.{cond}
+use mathlib.Core.Bool.{Bool, cond}
 use mathlib.Core.List.{List, [], _∷_, _++_}
 use native.Mathlib.Omega.{arith}
 use lib.Dec.{leb}
@@ -25,18 +25,18 @@ use Rattle.voice.specs.Modules.{sample-is}
 use Rattle.machine.specs.declared.Machine.{Machine}
 use Rattle.machine.specs.Machine.{freshMachine, mechanism}
 use Rattle.machine.specs.Kept.{frames-same, after-same}
-use Rattle.records.specs.Format.{atFirst, Decoded, refusal, ticks, decode}
+use Rattle.records.specs.Format.{keeps, atFirst, Decoded, refusal, ticks, decode}
 use Rattle.records.specs.Registers.{first-long}
 use Rattle.records.specs.Decoded.{stream-of}
 use Rattle.board.specs.Board.{playedTicks, playedBy, boardOf, playStreamOf}
 
 -- ---- samples that are equal by their numbers, up to the last
-module _ (last c : ℕ) (room : c ≤ width) (samples others : ℕ → Sample) (same : (k : ℕ) → k ≤ last → samples k ≡ others k) where
+module _ (keeping : Bool) (last c : ℕ) (room : c ≤ width) (samples others : ℕ → Sample) (same : (k : ℕ) → k ≤ last → samples k ≡ others k) where
   abbrev k : Mechanism ℤ Machine Tick
-  k = mechanism c samples
+  k = mechanism keeping c samples
 
   abbrev k′ : Mechanism ℤ Machine Tick
-  k′ = mechanism c others
+  k′ = mechanism keeping c others
 
   -- the commands of a legal tick name samples to the last
   module _ (w : Machine) (soundings : List ℕ) (long : length soundings ≡ width) (t : Tick) (l : LegalTick last soundings t) where
@@ -44,7 +44,7 @@ module _ (last c : ℕ) (room : c ≤ width) (samples others : ℕ → Sample) (
     tick-frames = frames-same c samples others w t (λ i h. same _ (l .commands i (omega arith) .sample))
 
     tick-after : k .after w t ≡ k′ .after w t
-    tick-after = after-same c samples others w t (λ i h. same _ (l .commands i (omega arith) .sample))
+    tick-after = after-same c samples others w t (λ i h. same _ (l .commands i (omega arith) .sample)) keeping
 
     next-long : length (soundingOf (t .commands)) ≡ width
     next-long = length-sounding (t .commands) ∙ (l .long ∙ long)
@@ -65,7 +65,7 @@ module _ (last c : ℕ) (room : c ≤ width) (samples others : ℕ → Sample) (
       ap₂ _++_ (tick-frames w soundings long t l)
       (ap (λ (x : Machine). rendered k x (take n ts)) (tick-after w soundings long t l) ∙ rendered-same (k′ .after w t) (soundingOf (t .commands)) (next-long w soundings long t l) ts n ls)
 
-  played-same : (soundings : List ℕ) → length soundings ≡ width → (ts : List Tick) (out : List ℤ) → LegalTicks last soundings ts → playedTicks c samples ts out ≡ playedTicks c others ts out
+  played-same : (soundings : List ℕ) → length soundings ≡ width → (ts : List Tick) (out : List ℤ) → LegalTicks last soundings ts → playedTicks keeping c samples ts out ≡ playedTicks keeping c others ts out
   unfolding playedTicks playOut
   played-same soundings long ts out l =
       ap₂ (λ (n : ℕ) (xs : List ℤ). outcome (accepted n) (over xs out)) f
@@ -74,13 +74,14 @@ module _ (last c : ℕ) (room : c ≤ width) (samples others : ℕ → Sample) (
       f : fit k (length out) freshMachine ts ≡ fit k′ (length out) freshMachine ts
       f = fit-same (length out) freshMachine soundings long ts l
 
-  pub board-same : (stream : List ℕ) (out : List ℤ) → boardOf last c samples stream out ≡ boardOf last c others stream out
+module _ (last c : ℕ) (room : c ≤ width) (samples others : ℕ → Sample) (same : (k : ℕ) → k ≤ last → samples k ≡ others k) where
+  board-same : (stream : List ℕ) (out : List ℤ) → boardOf last c samples stream out ≡ boardOf last c others stream out
   unfolding playedBy
   board-same stream out = go (decode last c stream) refl
     where
-      go : (d : Decoded) → decode last c stream ≡ d → playedBy c samples d out ≡ playedBy c others d out
+      go : (d : Decoded) → decode last c stream ≡ d → playedBy (keeps stream) c samples d out ≡ playedBy (keeps stream) c others d out
       go (refusal number place) e = refl
-      go (ticks ts) e = played-same (soundingOf atFirst) (length-sounding atFirst ∙ first-long) ts out (stream-of last c stream ts e .legal)
+      go (ticks ts) e = played-same (keeps stream) last c room samples others same (soundingOf atFirst) (length-sounding atFirst ∙ first-long) ts out (stream-of last c stream ts e .legal)
 
 -- two accepted files with equal samples give equal frames, and equal answers, for every stream and output
 pub same-samples : (bytes bytes′ : List ℕ) → verdict (moduleOf bytes) .number ≡ 0 → verdict (moduleOf bytes′) .number ≡ 0

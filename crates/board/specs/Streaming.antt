@@ -8,7 +8,7 @@ use native.Mathlib.Omega.{arith}
 use lib.ListN.{length, getD, take, drop}
 use borrow.Rule.Slice.PartMut.{putMid}
 use Rattle.common.specs.Bytes.{fourAt}
-use Rattle.common.specs.Limits.{width}
+use Rattle.common.specs.Limits.{width, greatestTempo}
 use Rattle.ticks.specs.declared.Command.{Command}
 use Rattle.ticks.specs.declared.Tick.{Tick}
 use Rattle.ticks.specs.Commands.{nothing}
@@ -25,7 +25,7 @@ use Rattle.voice.specs.Frames.{blank}
 use Rattle.voice.specs.LegalFacts.{LegalVoices, Ready}
 use Rattle.voice.specs.Modules.{table-inside}
 use Rattle.machine.specs.Turn.{Turned, turnOf}
-use Rattle.machine.specs.Turns.{stops-same, playing-stops, playing-turns, machine-after}
+use Rattle.machine.specs.Turns.{turn-machine, stops-same, playing-stops, playing-turns}
 use Rattle.machine.specs.Carries.{Carries}
 use Rattle.records.specs.Format.{countPlace, recordsPlace, atFirst, readRecord, ticks, decode}
 use Rattle.records.specs.Registers.{first-long, first-at}
@@ -78,6 +78,9 @@ module _ {A W : Type 0} (k : Mechanism A W Tick) (voicesOf : W → List Voice) (
       pub next-tempo : 0 < r .tick .tempo
       next-tempo = omega (arith, next .legal .tempo .low)
 
+      pub next-most : r .tick .tempo ≤ greatestTempo
+      next-most = next .legal .tempo .high
+
       -- the voices are ready for its commands
       pub next-ready : Ready m (extentsOf m) (voicesOf w) (r .tick .commands)
       next-ready =
@@ -101,7 +104,7 @@ module _ {A W : Type 0} (k : Mechanism A W Tick) (voicesOf : W → List Voice) (
         -- it fits
         pub streaming-more : x .full ≡ false → Streaming w₀ out₀ (x .machine) (r .tick .commands) (r .next) (putMid at (length out - at) out (x .out)) (at + x .size) (i + 1)
         streaming-more f =
-            let v : x .machine ≡ k .after w (r .tick) = machine-after k w₀ (g .its) out₀ w (g .rest) out at i (g .play) (r .tick) (next .rest) (next .is) x e f in
+            let v : x .machine ≡ k .after w (r .tick) = turn-machine k w (r .tick) (take (length out - at) (drop at out)) x e f in
             record {
               layout = g .layout;
               judge = g .judge;

@@ -20,6 +20,7 @@ fn play_records(layout: Layout, file: &[u8], stream: &[u8], out: &mut [i16]) -> 
     let extents = reader::samples::extents(layout, file);
     let last = layout.samples as u32;
     let count = decoder::count_of(stream);
+    let keeping = decoder::keeps(stream);
     let mut machine = machine::fresh();
     let mut registers = records::at_first();
     let mut from = records::RECORDS_PLACE;
@@ -28,7 +29,15 @@ fn play_records(layout: Layout, file: &[u8], stream: &[u8], out: &mut [i16]) -> 
     while i < count {
         let next = decoder::read_record(last, layout.channels, stream, from, registers);
         let tick = next.tick;
-        let turn = machine::play_tick(layout, file, extents, machine, tick, &mut out[at..]);
+        let turn = machine::play_tick(
+            layout,
+            file,
+            extents,
+            machine,
+            tick,
+            keeping,
+            &mut out[at..],
+        );
         if turn.full {
             return common::accept(i);
         }

@@ -30,7 +30,8 @@ use Rattle.voice.specs.declared.Voice.{Voice}
 use Rattle.voice.specs.Voice.{freshVoice, samplesOf, arriveAt, silentOf, signedOf, readAt, givesOf, growthOf, carried, stepOf, toldOf}
 use Rattle.voice.specs.Frames.{stepsOf, sideOf, sumOf, scaleOf, framesFrom, mixed}
 use Rattle.voice.specs.Legal.{legalIndex, legalVoice, isFreshVoice, legalUsedVoice, legalVoices}
-use Rattle.machine.specs.Machine.{framesAt, frames}
+use Rattle.machine.specs.Lengths.{carriedAt, lengthAt}
+use Rattle.machine.specs.Machine.{begins, tickLength, frames}
 use Rattle.player.specs.declared.State.{State}
 use Rattle.player.specs.declared.Reply.{Reply}
 use Rattle.player.specs.State.{freshState, legalState, reply}
@@ -89,7 +90,7 @@ goingOn = record { sample = 1; volume = 64; period = 428; start = false; offset 
 unfoldable pub left : ℕ → ℤ
 left index =
     getD
-    (frames (channelCount module1) (samplesOf module1) (record { voices = voice index 0 ∷ freshVoice ∷ freshVoice ∷ voice index 0 ∷ [] })
+    (frames (channelCount module1) (samplesOf module1) (record { voices = voice index 0 ∷ freshVoice ∷ freshVoice ∷ voice index 0 ∷ []; tempo = 125; remainder = 0 })
     (record { tempo = 125; commands = goingOn ∷ nothing ∷ nothing ∷ goingOn ∷ [] }))
     0 (pos 0)
 
@@ -99,6 +100,7 @@ clock3 =
     record {
       song = record { course = freshSong .course; time = freshSong .time; desk = record { clock = 3; page = 0 }; channels = freshSong .channels };
       voices = freshState .voices;
+      remainder = 0;
     }
 
 -- the number that answers a touch on it, made at a clock
@@ -111,10 +113,10 @@ pub record Cases : Type 0 where
   pub p1 : growthOf 428 ≡ 11314
   pub p2 : growthOf 113 ≡ 42855
   pub p3 : growthOf 856 ≡ 5657
-  -- frames at tempo 125; at 32; at 255
-  pub p4 : framesAt 125 ≡ 960
-  pub p5 : framesAt 32 ≡ 3750
-  pub p6 : framesAt 255 ≡ 470
+  -- frames at tempo 125; at 32; at 255: from remainder 0
+  pub p4 : lengthAt 125 0 ≡ 960
+  pub p5 : lengthAt 32 0 ≡ 3750
+  pub p6 : lengthAt 255 0 ≡ 470
   -- byte 128, volume 64 on 1 and 4; byte 127
   pub p7 : left 2 ≡ negℤ (pos 32768)
   pub p8 : left 3 ≡ pos 32512
@@ -144,7 +146,7 @@ unfolding header row bytes file left clock3 refusing each partly
     total largest patternsOf samplePlace cellFrom cellAt extentOf
     isNote isTarget lowered towards periods above semitones arpeggio transposed soundedPeriod soundedVolume givenPeriod rowPeriod rowChannel tickVolume tickPeriod tickChannel worked voicedBy voiced
     rowSpeed rowDelay rowLoop rowMove rowTime rowFlow flowFrom flowThrough freshSong nextOf courseBy songBy songWork voicedOn allVoiced nextTick timeTo courseTo deskAfter advanced tickWith tickOf songAfter
-    arriveAt silentOf signedOf readAt givesOf growthOf carried stepOf toldOf stepsOf sideOf sumOf scaleOf framesFrom mixed framesAt frames ageOf
+    arriveAt silentOf signedOf readAt givesOf growthOf carried stepOf toldOf stepsOf sideOf sumOf scaleOf framesFrom mixed carriedAt lengthAt begins tickLength frames ageOf
 cases =
     record {
       p1 = refl;

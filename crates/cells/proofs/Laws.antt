@@ -48,10 +48,10 @@ pub record Written (cs : List Channel) (vs : List Voice) (cells₀ cells : List 
   pub done : take (channelPlace i) cells ≡ take songCellCount cells₀ ++ joined (cellsAt cs vs) i
 
 module _ (cs : List Channel) (vs : List Voice) (cells₀ : List ℕ) where
-  pub written-none : (zeros : List ℕ) (song : Song) → cells₀ ≡ sets zeros 0 (songCells song) → length zeros ≡ cellCount → Written cs vs cells₀ cells₀ 0
+  pub written-none : (zeros : List ℕ) (song : Song) (remainder : ℕ) → cells₀ ≡ sets zeros 0 (songCells song remainder) → length zeros ≡ cellCount → Written cs vs cells₀ cells₀ 0
   unfolding joined
-  written-none zeros song e h =
-      record { few = omega arith; long = ap length e ∙ length-sets zeros 0 (songCells song) ∙ h; done = sym (append-nil (take songCellCount cells₀)) }
+  written-none zeros song remainder e h =
+      record { few = omega arith; long = ap length e ∙ length-sets zeros 0 (songCells song remainder) ∙ h; done = sym (append-nil (take songCellCount cells₀)) }
 
   pub written-more : (old new : List ℕ) (i : ℕ) → Written cs vs cells₀ old i → i < width → new ≡ sets old (channelPlace i) (cellsAt cs vs i) → Written cs vs cells₀ new (i + 1)
   unfolding joined
@@ -65,11 +65,11 @@ module _ (cs : List Channel) (vs : List Voice) (cells₀ : List ℕ) where
             (append-assoc (take songCellCount cells₀) (joined (cellsAt cs vs) i) (cellsAt cs vs i));
       }
 
-pub written-all : (s : State) (zeros cells₀ cells : List ℕ) (i : ℕ) → length zeros ≡ cellCount → cells₀ ≡ sets zeros 0 (songCells (s .song)) → Written (s .song .channels) (s .voices) cells₀ cells i → width ≤ i → cells ≡ stateCells s
+pub written-all : (s : State) (zeros cells₀ cells : List ℕ) (i : ℕ) → length zeros ≡ cellCount → cells₀ ≡ sets zeros 0 (songCells (s .song) (s .remainder)) → Written (s .song .channels) (s .voices) cells₀ cells i → width ≤ i → cells ≡ stateCells s
 unfolding stateCells
 written-all s zeros cells₀ cells i z e w h =
     let n : i ≡ width = omega (arith, w .few) in
     sym (take-all (channelPlace i) cells (omega (arith, w .long))) ∙ w .done
-    ∙ rw (e, n) (ap (λ (xs : List ℕ). xs ++ joined (cellsAt (s .song .channels) (s .voices)) width) (take-sets (songCells (s .song)) zeros 0 (omega arith)))
+    ∙ rw (e, n) (ap (λ (xs : List ℕ). xs ++ joined (cellsAt (s .song .channels) (s .voices)) width) (take-sets (songCells (s .song) (s .remainder)) zeros 0 (omega arith)))
 
 pub ruleset writes = (written-none, written-more, written-all)

@@ -16,9 +16,9 @@ use Rattle.voice.specs.Frames.{blank}
 use Rattle.player.specs.declared.State.{State}
 
 -- ---- how many
--- a song's cells
+-- a song's cells, with the remainder
 abbrev pub songCellCount : ℕ
-songCellCount = 12
+songCellCount = 13
 
 -- a channel's own cells
 abbrev pub ownCellCount : ℕ
@@ -41,9 +41,9 @@ abbrev pub channelPlace : ℕ → ℕ
 channelPlace i = songCellCount + channelCellCount * i
 
 -- ---- from a state
--- position, row, tick, delay, next position, next row, loop row, loop count, speed, tempo, clock, page
-abbrev pub songCells : Song → List ℕ
-songCells s =
+-- position, row, tick, delay, next position, next row, loop row, loop count, speed, tempo, remainder, clock, page
+abbrev pub songCells : Song → ℕ → List ℕ
+songCells s remainder =
     s .course .at .position
     ∷ s .course .at .row
     ∷ s .time .tick
@@ -54,6 +54,7 @@ songCells s =
     ∷ s .course .looping .count
     ∷ s .time .speed
     ∷ s .time .tempo
+    ∷ remainder
     ∷ s .desk .clock
     ∷ s .desk .page
     ∷ []
@@ -80,7 +81,7 @@ joined f (suc n) = joined f n ++ f n
 
 -- the song's, then each channel's
 unfoldable pub stateCells : State → List ℕ
-stateCells s = songCells (s .song) ++ joined (cellsAt (s .song .channels) (s .voices)) width
+stateCells s = songCells (s .song) (s .remainder) ++ joined (cellsAt (s .song .channels) (s .voices)) width
 
 -- ---- from cells
 -- a channel's own numbers, from a place on
@@ -104,6 +105,10 @@ voiceOf l at =
       stopped = eqb (getD l (at + 5) 0) 1;
     }
 
+-- where the remainder stands
+abbrev pub remainderPlace : ℕ
+remainderPlace = 10
+
 -- a song with these channels, from the first cells
 abbrev pub songOf : List ℕ → List Channel → Song
 songOf l cs =
@@ -115,7 +120,7 @@ songOf l cs =
             looping = record { row = getD l 6 0; count = getD l 7 0 };
           };
       time = record { tick = getD l 2 0; delay = getD l 3 0; speed = getD l 8 0; tempo = getD l 9 0 };
-      desk = record { clock = getD l 10 0; page = getD l 11 0 };
+      desk = record { clock = getD l 11 0; page = getD l 12 0 };
       channels = cs;
     }
 
@@ -125,4 +130,5 @@ stateOf l =
     record {
       song = songOf l (each (λ i. channelOf l (channelPlace i)) width);
       voices = each (λ i. voiceOf l (channelPlace i + ownCellCount)) width;
+      remainder = getD l remainderPlace 0;
     }

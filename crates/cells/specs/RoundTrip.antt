@@ -18,7 +18,7 @@ use Rattle.effects.specs.Legal.{freshChannel}
 use Rattle.voice.specs.declared.Voice.{Voice}
 use Rattle.voice.specs.Frames.{blank}
 use Rattle.player.specs.declared.State.{State}
-use Rattle.cells.specs.Cells.{songCellCount, ownCellCount, voiceCellCount, channelCellCount, cellCount, channelPlace, songCells, ownCells, voiceCells, cellsAt, joined, stateCells, channelOf, sampleBy, voiceOf, songOf, stateOf}
+use Rattle.cells.specs.Cells.{songCellCount, ownCellCount, voiceCellCount, channelCellCount, cellCount, channelPlace, songCells, ownCells, voiceCells, cellsAt, joined, stateCells, channelOf, sampleBy, voiceOf, remainderPlace, songOf, stateOf}
 use Rattle.cells.specs.Joined.{partAt, joined-parts, joined-at}
 use Rattle.laws.specs.Ranges.{each}
 use Rattle.common.specs.ByteLaws.{bit-back, bit-most}
@@ -75,7 +75,7 @@ flag-cell zero h = refl
 flag-cell (suc zero) h = refl
 flag-cell (suc (suc n)) h = absurd (omega arith)
 
-song-again : (l : List ℕ) (cs : List Channel) → songCellCount ≤ length l → songCells (songOf l cs) ≡ take songCellCount l
+song-again : (l : List ℕ) (cs : List Channel) → songCellCount ≤ length l → songCells (songOf l cs) (getD l remainderPlace 0) ≡ take songCellCount l
 unfolding each
 song-again l cs h = rw (part-is l 0 songCellCount h)
 

@@ -18,8 +18,8 @@ use sequencer::Song;
 use sequencer::Time;
 use voice::Voice;
 
-// A song's cells; a channel's own, its voice's, and both.
-const SONG_CELLS: usize = 12;
+// A song's cells with the remainder; a channel's own, its voice's, and both.
+const SONG_CELLS: usize = 13;
 
 const OWN_CELLS: usize = 5;
 
@@ -29,6 +29,9 @@ const CHANNEL_CELLS: usize = OWN_CELLS + VOICE_CELLS;
 
 // A state's cells.
 pub const CELLS: usize = SONG_CELLS + CHANNEL_CELLS * WIDTH;
+
+// Where the remainder stands.
+const REMAINDER: usize = 10;
 
 // A sample number that no legal state has.
 const NO_SAMPLE: u32 = SAMPLE_NUMBERS as u32;
@@ -45,8 +48,8 @@ fn put(run: &[u32], at: usize, cells: &mut [u32; CELLS])
     }
 }
 
-fn put_song(song: Song, cells: &mut [u32; CELLS])
-    ensures { λ _. ⌜ now (cells .exit) ≡ sets (now (cells .entry)) 0 (songCells song) ⌝ }
+fn put_song(song: Song, remainder: u32, cells: &mut [u32; CELLS])
+    ensures { λ _. ⌜ now (cells .exit) ≡ sets (now (cells .entry)) 0 (songCells song remainder) ⌝ }
 {
     let run = [
         song.course.at.position,
@@ -59,6 +62,7 @@ fn put_song(song: Song, cells: &mut [u32; CELLS])
         song.course.looping.count,
         song.time.speed,
         song.time.tempo,
+        remainder,
         song.desk.clock,
         song.desk.page,
     ];
@@ -93,7 +97,7 @@ pub fn cells_of(state: State) -> [u32; CELLS]
     let channels = song.channels;
     let voices = state.voices;
     let mut cells = [0; CELLS];
-    put_song(song, &mut cells);
+    put_song(song, state.remainder, &mut cells);
     for i in 0..WIDTH {
         put_channel(
             channels[i],
@@ -189,8 +193,8 @@ fn song_of(cells: &[u32; CELLS], channels: [Channel; WIDTH]) -> Song
             tempo: cells[9],
         },
         desk: Desk {
-            clock: cells[10],
-            page: cells[11],
+            clock: cells[11],
+            page: cells[12],
         },
         channels: channels,
     }
@@ -203,5 +207,6 @@ pub fn state_of(cells: &[u32; CELLS]) -> State
     State {
         song: song_of(cells, channels_of(cells)),
         voices: voices_of(cells),
+        remainder: cells[REMAINDER],
     }
 }

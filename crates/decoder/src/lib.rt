@@ -5,7 +5,7 @@ ghost use Prim.Native.Nat.{_^_, _≤_, _<_};
 ghost use lib.ListN.{length};
 ghost use Rattle.common.specs.Limits.{width};
 ghost use Rattle.common.specs.Bytes.{fourAt};
-ghost use Rattle.records.specs.Format.{countPlace, recordsPlace, knownVersion, atFirst, readRecord, decodeRecords, decode};
+ghost use Rattle.records.specs.Format.{countPlace, recordsPlace, knownVersion, keeps, atFirst, readRecord, decodeRecords, decode};
 ghost use Rattle.decoder.specs.Answers.{asRecord, answerOf};
 use common::Answer;
 use common::accept;
@@ -17,6 +17,7 @@ use common::limits::WIDTH;
 use common::limits::is_between;
 use common::refuse;
 use records::COUNT_PLACE;
+use records::FIRST_VERSION;
 use records::HEAD_BYTES;
 use records::RECORDS_PLACE;
 use records::TEMPO_PLACE;
@@ -95,10 +96,18 @@ pub fn count_of(stream: &[u8]) -> usize
     four(stream, COUNT_PLACE)
 }
 
+// Whether a stream's ticks keep a remainder.
+pub fn keeps(stream: &[u8]) -> bool
+    requires { ⌜ recordsPlace ≤ length (now stream) ⌝ }
+    ensures { λ b. ⌜ b ≡ keeps (now (stream .entry)) ⌝ }
+{
+    stream[VERSION_PLACE] != FIRST_VERSION
+}
+
 fn known_version(v: u8) -> bool
     ensures { λ b. ⌜ b ≡ knownVersion v ⌝ }
 {
-    v == VERSION
+    (FIRST_VERSION <= v) & (v <= VERSION)
 }
 
 // Refusal 23. It ends at the first bad record, and a good one has at least two bytes, whatever the count is.

@@ -1,34 +1,41 @@
 -- A tick by its length: laws over plain variables.
 -- Assumes nothing.
-use Prim.Native.Nat.{ℕ, _*_, _/_, _≤_, _<_}
+use Prim.Native.Nat.{ℕ, _+_, _*_, _/_, _≤_, _<_}
+use native.Mathlib.Omega.{arith}
 use native.Mathlib.Nat.{div-le-self}
-use mathlib.Core.Path.{_≡_}
-use mathlib.Core.Bool.{true, false}
+use mathlib.Core.Path.{_≡_, ap, _∙_}
+use mathlib.Core.Bool.{Bool, true, false}
 use mathlib.Core.List.{List, _++_}
 use lib.IntN.{ℤ}
 use lib.ListN.{length, drop}
 use borrow.Author.Tests.{lt-ltb, le-ltb}
+use Rattle.common.specs.Limits.{greatestTempo}
 use Rattle.ticks.specs.declared.Tick.{Tick}
 use Rattle.reader.specs.Samples.{Sample}
 use Rattle.voice.specs.declared.Voice.{Voice}
 use Rattle.voice.specs.Frames.{frameNumbers, mixed, moved}
 use Rattle.voice.specs.Moved.{length-mixed}
 use Rattle.machine.specs.declared.Machine.{Machine}
-use Rattle.machine.specs.Machine.{tickFrames, framesAt, tickSize, frames, after, mechanism}
+use Rattle.machine.specs.Lengths.{tickFrames, carriedAt, lengthAt, keptAt}
+use Rattle.machine.specs.Machine.{begins, tickLength, tickSize, frames, after, mechanism}
 use Rattle.machine.specs.Turn.{turn, turnOf}
 
-module _ (c : ℕ) (samples : ℕ → Sample) (w : Machine) (t : Tick) (out : List ℤ) (n : ℕ) (e : n ≡ framesAt (t .tempo)) where
+module _ (keeps : Bool) (c : ℕ) (samples : ℕ → Sample) (w : Machine) (t : Tick) (out : List ℤ) (b n : ℕ) (be : b ≡ carriedAt (w .tempo) (w .remainder) (t .tempo)) (ne : n ≡ lengthAt (t .tempo) b) where
+  length-is : n ≡ tickLength w t
+  unfolding tickLength begins
+  length-is = ne ∙ ap (lengthAt (t .tempo)) be
+
   -- it does not fit
-  pub tick-full : length out < frameNumbers * n → turn true 0 w out ≡ turnOf (mechanism c samples) w t out
+  pub tick-full : length out < frameNumbers * n → turn true 0 w out ≡ turnOf (mechanism keeps c samples) w t out
   unfolding turnOf tickSize
-  tick-full h = rw (← e, lt-ltb (length out) (frameNumbers * n) h)
+  tick-full h = rw (← length-is, lt-ltb (length out) (frameNumbers * n) h)
 
   -- it does
-  pub tick-played : frameNumbers * n ≤ length out → (vs : List Voice) (new : List ℤ) → vs ≡ moved c samples (w .voices) (t .commands) n → new ≡ mixed c samples (w .voices) (t .commands) n ++ drop (frameNumbers * n) out
-      → turn false (frameNumbers * n) (record { voices = vs }) new ≡ turnOf (mechanism c samples) w t out
-  unfolding turnOf tickSize frames after
-  tick-played h vs new q z = rw (← e, le-ltb (length out) (frameNumbers * n) h, length-mixed c samples (w .voices) (t .commands) n, q, z)
+  pub tick-played : frameNumbers * n ≤ length out → (vs : List Voice) (k : ℕ) (new : List ℤ) → vs ≡ moved c samples (w .voices) (t .commands) n → k ≡ keptAt keeps (t .tempo) b → new ≡ mixed c samples (w .voices) (t .commands) n ++ drop (frameNumbers * n) out
+      → turn false (frameNumbers * n) (record { voices = vs; tempo = t .tempo; remainder = k }) new ≡ turnOf (mechanism keeps c samples) w t out
+  unfolding turnOf tickSize frames after begins
+  tick-played h vs k new q p z = rw (← length-is, ← be, le-ltb (length out) (frameNumbers * n) h, length-mixed c samples (w .voices) (t .commands) n, q, p, z)
 
 -- a tick's frames are few
-pub frames-few : (tempo : ℕ) → tickFrames / tempo ≤ tickFrames
-frames-few tempo = div-le-self tickFrames tempo
+pub frames-few : (tempo remainder : ℕ) → remainder ≤ greatestTempo → (tickFrames + remainder) / tempo ≤ tickFrames + greatestTempo
+frames-few tempo remainder h = omega (arith, div-le-self (tickFrames + remainder) tempo)

@@ -1,8 +1,10 @@
--- The machine that player and board share: a voice for each channel. How long a tick is, its frames, and the machine after it.
+-- The machine that player and board share: a voice for each channel, the tempo of the tick before and the remainder that it left.
+-- How long a tick is, its frames, and the machine after it.
 -- It takes the number of channels and the samples by their number, and never the module.
 -- Assumes nothing.
-use Prim.Native.Nat.{ℕ, _*_, _/_}
+use Prim.Native.Nat.{ℕ, _*_}
 use mathlib.Core.Path.{_≡_}
+use mathlib.Core.Bool.{Bool, true}
 use mathlib.Core.List.{List}
 use lib.IntN.{ℤ}
 use lib.ListN.{length}
@@ -17,45 +19,51 @@ use Rattle.voice.specs.Frames.{frameNumbers, mixed, moved}
 use Rattle.voice.specs.Moved.{length-mixed}
 use Rattle.machine.specs.declared.Machine.{Machine}
 use Rattle.machine.specs.declared.Turn.{Turn}
+use Rattle.machine.specs.Lengths.{carriedAt, lengthAt, keptAt}
 use Rattle.machine.specs.Turn.{Turned, turn}
 
--- fresh: each voice stopped, its numbers 0
+-- fresh: each voice stopped, its numbers 0, tempo 125, remainder 0
 unfoldable pub freshMachine : Machine
-freshMachine = record { voices = each (λ i. freshVoice) width }
+freshMachine = record { voices = each (λ i. freshVoice) width; tempo = 125; remainder = 0 }
 
 -- ---- a tick
--- a tick's frames times its tempo
-abbrev pub tickFrames : ℕ
-tickFrames = 120000
+-- the remainder that it begins with
+unfoldable pub begins : Machine → Tick → ℕ
+begins w t = carriedAt (w .tempo) (w .remainder) (t .tempo)
 
--- a tick has 120,000 div tempo frames
-unfoldable pub framesAt : ℕ → ℕ
-framesAt tempo = tickFrames / tempo
+-- how many frames it has
+unfoldable pub tickLength : Machine → Tick → ℕ
+tickLength w t = lengthAt (t .tempo) (begins w t)
 
 -- how many numbers it takes
 unfoldable pub tickSize : Machine → Tick → ℕ
-tickSize w t = frameNumbers * framesAt (t .tempo)
+tickSize w t = frameNumbers * tickLength w t
 
 -- its frames
 unfoldable pub frames : ℕ → (ℕ → Sample) → Machine → Tick → List ℤ
-frames channels samples w t = mixed channels samples (w .voices) (t .commands) (framesAt (t .tempo))
+frames channels samples w t = mixed channels samples (w .voices) (t .commands) (tickLength w t)
 
--- the machine after it
-unfoldable pub after : ℕ → (ℕ → Sample) → Machine → Tick → Machine
-after channels samples w t = record { voices = moved channels samples (w .voices) (t .commands) (framesAt (t .tempo)) }
+-- the machine after it, which keeps the tick's remainder or, by the old rule, none
+unfoldable pub after : Bool → ℕ → (ℕ → Sample) → Machine → Tick → Machine
+after keeps channels samples w t =
+    record {
+      voices = moved channels samples (w .voices) (t .commands) (tickLength w t);
+      tempo = t .tempo;
+      remainder = keptAt keeps (t .tempo) (begins w t);
+    }
 
 -- a tick has as many numbers as its size says
 pub sized : (channels : ℕ) (samples : ℕ → Sample) (w : Machine) (t : Tick) → length (frames channels samples w t) ≡ tickSize w t
 unfolding frames tickSize
-sized channels samples w t = length-mixed channels samples (w .voices) (t .commands) (framesAt (t .tempo))
+sized channels samples w t = length-mixed channels samples (w .voices) (t .commands) (tickLength w t)
 
 -- so that this is a machine for ticks
-abbrev pub mechanism : ℕ → (ℕ → Sample) → Mechanism ℤ Machine Tick
-mechanism channels samples = record { size = tickSize; frames = frames channels samples; after = after channels samples; sized = sized channels samples }
+abbrev pub mechanism : Bool → ℕ → (ℕ → Sample) → Mechanism ℤ Machine Tick
+mechanism keeps channels samples = record { size = tickSize; frames = frames channels samples; after = after keeps channels samples; sized = sized channels samples }
 
 -- how a module's ticks are played
 abbrev pub mechanismOf : Module → Mechanism ℤ Machine Tick
-mechanismOf m = mechanism (channelCount m) (samplesOf m)
+mechanismOf m = mechanism true (channelCount m) (samplesOf m)
 
 -- a turn as it was returned, with the buffer that it left
 abbrev pub turned : Turn → List ℤ → Turned ℤ Machine

@@ -48,6 +48,10 @@ module _ {A W S : Type 0} (m : Mechanism A W S) (w : W) (t : S) (out : List A) (
             cells = ap (λ (x : Turned A W). x .out) q;
           }
 
+  -- the machine after a turn that fits
+  pub turn-machine : r .full ≡ false → r .machine ≡ m .after w t
+  turn-machine h = turn-fits h .machine
+
 -- ---- a turn of the loop
 module _ {A W S : Type 0} (m : Mechanism A W S) (w₀ : W) (ts₀ : List S) (out₀ : List A) (w : W) (ts : List S) (out : List A) (at i : ℕ) (p : Playing m w₀ ts₀ out₀ w ts out at i) (t : S) (rest : List S) (e : ts ≡ t ∷ rest) (r : Turned A W) (q : r ≡ turnOf m w t (take (length out - at) (drop at out))) where
   -- the next tick does not fit: the buffer stays
@@ -65,6 +69,3 @@ module _ {A W S : Type 0} (m : Mechanism A W S) (w₀ : W) (ts₀ : List S) (out
       let f = turn-fits m w t (take (length out - at) (drop at out)) r q h in
       playing-more m w₀ ts₀ out₀ w ts out at i p t rest e (r .size) (r .machine) (putMid at (length out - at) out (r .out)) (f .size) (rw (f .size) (rw (tail-long at out) at (f .room))) (f .machine)
       (tail-back (over (m .frames w t)) at out (r .out) (f .cells))
-
-  pub machine-after : r .full ≡ false → r .machine ≡ m .after w t
-  machine-after h = turn-fits m w t (take (length out - at) (drop at out)) r q h .machine

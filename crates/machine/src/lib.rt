@@ -1,12 +1,14 @@
-// The machine that player and board share: its voices, and one tick of it into a buffer.
+// The machine that player and board share, and one tick of it into a buffer.
 ghost use mathlib.Core.Path.{_≡_};
-ghost use Prim.Native.Nat.{_<_, _≤_};
+ghost use Prim.Native.Nat.{_+_, _<_, _≤_};
 ghost use lib.ListN.{length};
 ghost use Rattle.reader.specs.File.{lent};
 ghost use Rattle.voice.specs.Voice.{samplesIn};
 ghost use Rattle.reader.specs.Layouts.{LegalLayout};
 ghost use Rattle.voice.specs.LegalFacts.{Ready};
-ghost use Rattle.machine.specs.Machine.{tickFrames, framesAt, freshMachine, mechanism, turned};
+ghost use Rattle.common.specs.Limits.{greatestTempo};
+ghost use Rattle.machine.specs.Lengths.{tickFrames, carriedAt, lengthAt, keptAt};
+ghost use Rattle.machine.specs.Machine.{freshMachine, mechanism, turned};
 ghost use Rattle.machine.specs.Turn.{turnOf};
 use common::limits::SAMPLE_NUMBERS;
 use common::limits::WIDTH;
@@ -16,9 +18,11 @@ use ticks::Tick;
 use voice::Voice;
 use voice::mix::FRAME_NUMBERS;
 
-// A voice for each channel.
+// A voice for each channel, the tempo of the tick before and the remainder that it left.
 pub struct Machine {
     pub voices: [Voice; WIDTH],
+    pub tempo: u32,
+    pub remainder: u32,
 }
 
 // A tick played: whether the buffer was too full for it, how many numbers it took, and the machine after it.
@@ -31,21 +35,50 @@ pub struct Turn {
 // A tick's frames times its tempo.
 const TICK_FRAMES: u32 = 120000;
 
-// The machine before its first tick: every voice stopped.
+// The tempo before the first tick.
+const FRESH_TEMPO: u32 = 125;
+
+// The machine before its first tick: every voice stopped, no remainder.
 pub fn fresh() -> Machine
     ensures { λ r. ⌜ r ≡ freshMachine ⌝ }
 {
     let stopped = Voice::fresh();
     let voices = [stopped; WIDTH];
-    Machine { voices: voices }
+    Machine {
+        voices: voices,
+        tempo: FRESH_TEMPO,
+        remainder: 0,
+    }
+}
+
+// The remainder that a tick begins with.
+pub fn carried_at(before: u32, remainder: u32, tempo: u32) -> u32
+    requires { ⌜ remainder ≤ greatestTempo ⌝ }
+    ensures { λ r. ⌜ (r ≡ carriedAt before remainder tempo) × (r ≤ greatestTempo) ⌝ }
+{
+    if tempo == before {
+        return remainder;
+    }
+    0
 }
 
 // How many frames a tick has.
-fn frame_count(tempo: u32) -> usize
-    requires { ⌜ 0 < tempo ⌝ }
-    ensures { λ r. ⌜ (r ≡ framesAt tempo) × (r ≤ tickFrames) ⌝ }
+pub fn length_at(tempo: u32, remainder: u32) -> usize
+    requires { ⌜ (0 < tempo) × (remainder ≤ greatestTempo) ⌝ }
+    ensures { λ r. ⌜ (r ≡ lengthAt tempo remainder) × (r ≤ tickFrames + greatestTempo) ⌝ }
 {
-    (TICK_FRAMES / tempo) as usize
+    ((TICK_FRAMES + remainder) / tempo) as usize
+}
+
+// The remainder that it leaves: none by the old rule.
+fn kept_at(keeps: bool, tempo: u32, remainder: u32) -> u32
+    requires { ⌜ (0 < tempo) × (remainder ≤ greatestTempo) ⌝ }
+    ensures { λ r. ⌜ r ≡ keptAt keeps tempo remainder ⌝ }
+{
+    if keeps {
+        return (TICK_FRAMES + remainder) % tempo;
+    }
+    0
 }
 
 // A tick's frames into the front of out, whose rest stays; nothing where they do not fit.
@@ -55,15 +88,18 @@ pub fn play_tick(
     extents: [Extent; SAMPLE_NUMBERS],
     machine: Machine,
     tick: Tick,
+    keeps: bool,
     out: &mut [i16],
 ) -> Turn
     requires layout { ⌜ LegalLayout layout ⌝ }
     requires ready { ⌜ Ready (lent layout (now file)) extents (machine .voices) (tick .commands) ⌝ }
     requires tempo { ⌜ 0 < tick .tempo ⌝ }
-    ensures turned { λ r. ⌜ turned r (now (out .exit)) ≡ turnOf (mechanism (layout .channels) (samplesIn (lent layout (now (file .entry))) extents)) machine tick (now (out .entry)) ⌝ }
+    requires remainder { ⌜ machine .remainder ≤ greatestTempo ⌝ }
+    ensures turned { λ r. ⌜ turned r (now (out .exit)) ≡ turnOf (mechanism keeps (layout .channels) (samplesIn (lent layout (now (file .entry))) extents)) machine tick (now (out .entry)) ⌝ }
     ensures within { λ r. ⌜ r .size ≤ length (now (out .entry)) ⌝ }
 {
-    let frames = frame_count(tick.tempo);
+    let begins = carried_at(machine.tempo, machine.remainder, tick.tempo);
+    let frames = length_at(tick.tempo, begins);
     let size = FRAME_NUMBERS * frames;
     if out.len() < size {
         return Turn {
@@ -75,9 +111,14 @@ pub fn play_tick(
     let voices = machine.voices;
     let commands = tick.commands;
     let moved = voice::mix::mix(layout, file, extents, voices, commands, frames, out);
+    let next = Machine {
+        voices: moved,
+        tempo: tick.tempo,
+        remainder: kept_at(keeps, tick.tempo, begins),
+    };
     Turn {
         full: false,
         size: size,
-        machine: Machine { voices: moved },
+        machine: next,
     }
 }

@@ -4,6 +4,7 @@ ghost use Prim.Native.Nat.{_<_, _≤_};
 ghost use mathlib.Core.Path.{_≡_};
 ghost use lib.ListN.{length};
 ghost use Rattle.common.specs.Limits.{width};
+use common::limits::GREATEST_TEMPO;
 use common::limits::WIDTH;
 use libc::STDOUT_FILENO;
 use player::State;
@@ -19,12 +20,7 @@ const FACTOR: u32 = 31;
 
 const MODULUS: u32 = 65521;
 
-// A tick's frames times its tempo.
-const TICK_FRAMES: u32 = 120000;
-
-// The frames and the numbers of the longest tick, at tempo 32.
-const MOST_FRAMES: u32 = 3750;
-
+// The numbers of the longest tick, at tempo 32.
 const MOST_NUMBERS: usize = 7500;
 
 fn room() -> [i16; MOST_NUMBERS]
@@ -85,18 +81,22 @@ fn checksum(numbers: &[i16; MOST_NUMBERS], n: usize) -> u32
     h
 }
 
-// How many numbers a tick has.
-fn tick_size(tempo: u32) -> usize
+// How many numbers a tick has, by the tempo and the remainder before it.
+fn tick_size(before: u32, remainder: u32, tempo: u32) -> usize
     ensures { λ r. ⌜ r ≤ 7500 ⌝ }
 {
     if tempo == 0 {
         return 0;
     }
-    let frames = TICK_FRAMES / tempo;
-    if frames > MOST_FRAMES {
+    if remainder > GREATEST_TEMPO {
         return 0;
     }
-    FRAME_NUMBERS * frames as usize
+    let begins = machine::carried_at(before, remainder, tempo);
+    let numbers = FRAME_NUMBERS * machine::length_at(tempo, begins);
+    if numbers > MOST_NUMBERS {
+        return 0;
+    }
+    numbers
 }
 
 // Plays a tick, tells of it, and returns the state after it.
@@ -106,10 +106,15 @@ fn play_tick(file: &[u8], state: State) -> State {
     let after = reply.state;
     let voices = after.voices;
     let layout = reader::offsets::four_channels();
+    let size = tick_size(
+        state.song.time.tempo,
+        state.remainder,
+        after.song.time.tempo,
+    );
     tell_place(state.song);
     tell(after.song.time.tempo);
     tell_voices(layout.channels, voices);
-    tell(checksum(&out, tick_size(after.song.time.tempo)));
+    tell(checksum(&out, size));
     io::write_all(STDOUT_FILENO, b"\n");
     after
 }

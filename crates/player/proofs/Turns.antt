@@ -12,24 +12,23 @@ use mir.Val.{Fits}
 use borrow.Rule.Slice.PartMut.{putMid}
 use Rattle.laws.specs.Lent.{tail-long}
 use Rattle.common.specs.Answers.{accepted, outcome}
-use Rattle.common.specs.Limits.{width}
-use Rattle.reader.specs.File.{Module, lent, songLength}
-use Rattle.reader.specs.Judge.{verdict}
+use Rattle.common.specs.Limits.{width, greatestTempo}
+use Rattle.reader.specs.File.{Module, lent, channelCount}
 use Rattle.reader.specs.Samples.{extentsOf}
 use Rattle.reader.specs.declared.Extent.{Extent}
 use Rattle.reader.specs.declared.Layout.{Layout}
 use Rattle.sequencer.specs.declared.Song.{Song}
 use Rattle.sequencer.specs.declared.Worked.{Worked}
 use Rattle.sequencer.specs.Songs.{tickOf}
-use Rattle.reader.specs.Layouts.{LegalLayout}
-use Rattle.sequencer.specs.LegalFacts.{LegalSong}
 use Rattle.voice.specs.LegalFacts.{Ready}
 use Rattle.voice.specs.declared.Voice.{Voice}
-use Rattle.voice.specs.Voice.{samplesIn}
+use Rattle.voice.specs.Voice.{samplesIn, samplesOf}
 use Rattle.machine.specs.declared.Machine.{Machine}
 use Rattle.machine.specs.declared.Turn.{Turn}
 use Rattle.machine.specs.Machine.{mechanism, turned, mechanismOf}
 use Rattle.machine.specs.Turn.{turnOf}
+use Rattle.machine.specs.Turns.{turn-machine}
+use Rattle.machine.specs.Kept.{after-below}
 use Rattle.player.specs.declared.State.{State}
 use Rattle.player.specs.declared.Reply.{Reply}
 use Rattle.player.specs.State.{reply}
@@ -46,18 +45,21 @@ voicesOf w = w .voices
 pub record Turning (layout : Layout) (bytes : List ℕ) (extents : List Extent) (s₀ : State) (n : ℕ) (out₀ : List ℤ) (song : Song) (w : Machine) (out : List ℤ) (at i : ℕ) : Type 0 where
   pub table : extents ≡ extentsOf (lent layout bytes)
   pub few : n < 2 ^ 32
+  pub rest : w .remainder ≤ greatestTempo
   pub narrow : length out₀ * 2 < 2 ^ 63
   pub run : Running (mechanismOf (lent layout bytes)) voicesOf (lent layout bytes) s₀ (machineOf s₀) n out₀ song w out at i
 
-pub turning-begin : (layout : Layout) (bytes : List ℕ) (extents : List Extent) (song : Song) (vs : List Voice) (n : ℕ) (out : List ℤ) → Playable (lent layout bytes) (record { song = song; voices = vs }) → length vs ≡ width → n < 2 ^ 32 → length out * 2 < 2 ^ 63 → extents ≡ extentsOf (lent layout bytes)
-    → Turning layout bytes extents (record { song = song; voices = vs }) n out song (record { voices = vs }) out 0 0
-turning-begin layout bytes extents song vs n out p l f b e =
-    let s : State = record { song = song; voices = vs } in
+pub turning-begin : (layout : Layout) (bytes : List ℕ) (extents : List Extent) (song : Song) (vs : List Voice) (left n : ℕ) (out : List ℤ) → Playable (lent layout bytes) (record { song = song; voices = vs; remainder = left }) → length vs ≡ width → n < 2 ^ 32 → length out * 2 < 2 ^ 63 → extents ≡ extentsOf (lent layout bytes)
+    → Turning layout bytes extents (record { song = song; voices = vs; remainder = left }) n out song (record { voices = vs; tempo = song .time .tempo; remainder = left }) out 0 0
+turning-begin layout bytes extents song vs left n out p l f b e =
+    let s : State = record { song = song; voices = vs; remainder = left } in
+    let legal = state-has (lent layout bytes) (p .layout) s l (p .legal) in
     record {
       table = e;
       few = f;
+      rest = omega (arith, legal .remainder, legal .voiced .song .time .tempo .high);
       narrow = b;
-      run = running-none (mechanismOf (lent layout bytes)) voicesOf (lent layout bytes) s (machineOf s) n out (p .layout) (p .judged) (p .bytes) (carries (lent layout bytes) (p .layout)) (state-has (lent layout bytes) (p .layout) s l (p .legal)) refl;
+      run = running-none (mechanismOf (lent layout bytes)) voicesOf (lent layout bytes) s (machineOf s) n out (p .layout) (p .judged) (p .bytes) (carries true (lent layout bytes) (p .layout)) (legal .voiced) refl;
     }
 
 module _ {layout : Layout} {bytes : List ℕ} {extents : List Extent} {s₀ : State} {n : ℕ} {out₀ : List ℤ} {song : Song} {w : Machine} {out : List ℤ} {at i : ℕ} (g : Turning layout bytes extents s₀ n out₀ song w out at i) where
@@ -66,15 +68,6 @@ module _ {layout : Layout} {bytes : List ℕ} {extents : List Extent} {s₀ : St
 
   abbrev vs : List Voice
   vs = w .voices
-
-  pub turning-layout : LegalLayout layout
-  turning-layout = g .run .layout
-
-  pub turning-judged : verdict (lent layout bytes) .number ≡ 0
-  turning-judged = g .run .judge
-
-  pub turning-song : LegalSong (songLength (lent layout bytes)) layout song
-  turning-song = g .run .legal .song
 
   pub turning-within : at ≤ length out
   turning-within = omega (arith, g .run .playing .long, g .run .playing .low)
@@ -90,28 +83,25 @@ module _ {layout : Layout} {bytes : List ℕ} {extents : List Extent} {s₀ : St
   turning-next size h = record { fits = omega (arith, tail-long at out, turning-within, turning-narrow) }
 
   -- the answer and the buffer, where the play is over
-  ended : (end : List ℤ) → Over (mechanismOf m) voicesOf m s₀ (machineOf s₀) n out₀ song w end i → (r : Reply) → r ≡ reply (accepted i) (record { song = song; voices = w .voices }) → outcome r end ≡ playedFrom m s₀ n out₀
+  ended : (end : List ℤ) → Over (mechanismOf m) voicesOf m s₀ (machineOf s₀) n out₀ song w end i → (r : Reply) → r ≡ reply (accepted i) (record { song = song; voices = w .voices; remainder = w .remainder }) → outcome r end ≡ playedFrom m s₀ n out₀
   unfolding playedFrom
   ended end o r e = rw (e, o .tune, ← o .cells, ← o .machine, ← o .count)
 
-  pub turning-all : n ≤ i → (r : Reply) → r ≡ reply (accepted i) (record { song = song; voices = w .voices }) → outcome r out ≡ playedFrom (lent layout bytes) s₀ n out₀
+  pub turning-all : n ≤ i → (r : Reply) → r ≡ reply (accepted i) (record { song = song; voices = w .voices; remainder = w .remainder }) → outcome r out ≡ playedFrom (lent layout bytes) s₀ n out₀
   turning-all h = ended out (over-all (mechanismOf m) voicesOf m (g .run) h)
 
-  module _ (h : i < n) (k : List ℕ) (ke : k ≡ soundings (w .voices)) (x : Worked) (xe : x ≡ tickOf (lent layout bytes) song k) where
-    worked : x ≡ tickOf m song (soundings vs)
-    worked = xe ∙ ap (tickOf m song) ke
-
+  module _ (h : i < n) (x : Worked) (worked : x ≡ tickOf (lent layout bytes) song (soundings (w .voices))) where
     pub turning-tempo : 0 < x .tick .tempo
     turning-tempo = rw worked (omega (arith, tick-is-legal m (g .run .layout) (g .run .judge) (g .run .bytes) song vs (g .run .legal) .tempo .low))
 
     pub turning-ready : Ready (lent layout bytes) extents (w .voices) (x .tick .commands)
     turning-ready = rw (worked, g .table) (tick-ready m (g .run .layout) (g .run .judge) (g .run .bytes) song vs (g .run .legal))
 
-    module _ (r : Turn) (part : List ℤ) (q : turned r part ≡ turnOf (mechanism (layout .channels) (samplesIn (lent layout bytes) extents)) w (x .tick) (take (length out - at) (drop at out))) where
+    module _ (r : Turn) (part : List ℤ) (q : turned r part ≡ turnOf (mechanism true (layout .channels) (samplesIn (lent layout bytes) extents)) w (x .tick) (take (length out - at) (drop at out))) where
       turn-is : turned r part ≡ turnOf (mechanismOf m) w (tickOf m song (soundings vs) .tick) (take (length out - at) (drop at out))
       turn-is = q ∙ rw (g .table, worked)
 
-      pub turning-full : r .full ≡ true → (y : Reply) → y ≡ reply (accepted i) (record { song = song; voices = w .voices }) → outcome y (putMid at (length out - at) out part) ≡ playedFrom (lent layout bytes) s₀ n out₀
+      pub turning-full : r .full ≡ true → (y : Reply) → y ≡ reply (accepted i) (record { song = song; voices = w .voices; remainder = w .remainder }) → outcome y (putMid at (length out - at) out part) ≡ playedFrom (lent layout bytes) s₀ n out₀
       turning-full f = ended (putMid at (length out - at) out part) (over-full (mechanismOf m) voicesOf m (g .run) h (turned r part) turn-is f)
 
       pub turning-long : r .full ≡ true → length (putMid at (length out - at) out part) ≡ length out₀
@@ -119,10 +109,13 @@ module _ {layout : Layout} {bytes : List ℕ} {extents : List Extent} {s₀ : St
 
       pub turning-more : r .full ≡ false → Turning layout bytes extents s₀ n out₀ (x .song) (r .machine) (putMid at (length out - at) out part) (at + r .size) (i + 1)
       turning-more f =
+          let t = tickOf m song (soundings vs) .tick in
+          let tempo = tick-is-legal m (g .run .layout) (g .run .judge) (g .run .bytes) song vs (g .run .legal) .tempo in
           let s : x .song ≡ tickOf m song (soundings vs) .song = ap (λ (y : Worked). y .song) worked in
           record {
             table = g .table;
             few = g .few;
+            rest = rw (turn-machine (mechanismOf m) w t (take (length out - at) (drop at out)) (turned r part) turn-is f) (omega (arith, after-below true (channelCount m) (samplesOf m) w t (omega (arith, tempo .low)), tempo .high));
             narrow = g .narrow;
             run = rw s (running-more (mechanismOf m) voicesOf m (g .run) h (turned r part) turn-is f);
           }

@@ -5,7 +5,7 @@ use mathlib.Core.Path.{_≡_, refl, sym, ap, subst, _∙_}
 use mathlib.Core.Bool.{Bool, true, false, not, cond, _&&_}
 use mathlib.Core.List.{List, []}
 use native.Mathlib.Omega.{arith}
-use lib.Dec.{eqb}
+use lib.Dec.{eqb, ltb}
 use lib.IntN.{ℤ}
 use borrow.Author.Tests.{eq-eqb, ne-eqb}
 use Rattle.laws.specs.Ranges.{all, allFrom}
@@ -31,9 +31,9 @@ never-zero : {A : Type 0} (n : ℕ) → (n ≡ 0 → ⊥) → n ≡ 0 → A
 never-zero n h e = absurd (h e)
 
 -- ---- the test of a state
-pub state-tested : (layout : Layout) (bytes : List ℕ) (s : State) (positions : ℕ) (extents : List Extent) (a b : Bool) → positions ≡ songLength (lent layout bytes) → extents ≡ extentsOf (lent layout bytes) → a ≡ legalSong positions layout (s .song) → b ≡ legalVoices layout extents (s .voices) → a && b ≡ legalState (lent layout bytes) s
+pub state-tested : (layout : Layout) (bytes : List ℕ) (s : State) (positions : ℕ) (extents : List Extent) (a b c : Bool) → positions ≡ songLength (lent layout bytes) → extents ≡ extentsOf (lent layout bytes) → a ≡ legalSong positions layout (s .song) → b ≡ legalVoices layout extents (s .voices) → c ≡ ltb (s .remainder) (s .song .time .tempo) → a && b && c ≡ legalState (lent layout bytes) s
 unfolding legalState all allFrom
-state-tested layout bytes s positions extents a b e x p q = rw (p, q, e, x)
+state-tested layout bytes s positions extents a b c e x p q r = rw (p, q, r, e, x)
 
 -- ---- the verdict
 module _ (layout : Layout) (bytes : List ℕ) (s : State) (v : Answer) (ve : v ≡ verdict (lent layout bytes)) where
@@ -69,7 +69,7 @@ module _ (layout : Layout) (bytes : List ℕ) (s : State) (v : Answer) (j : Judg
   pub judged-number : v .number ≡ 0 → verdict (lent layout bytes) .number ≡ 0
   judged-number z = j .playable z .judged
 
-  pub play-playable : v .number ≡ 0 → Playable (lent layout bytes) (record { song = s .song; voices = s .voices })
+  pub play-playable : v .number ≡ 0 → Playable (lent layout bytes) (record { song = s .song; voices = s .voices; remainder = s .remainder })
   play-playable z = j .playable z
 
   module _ {A : Type 0} (refuse : ℕ → ℕ → A) (work : A) (more : List Line) where
@@ -97,6 +97,6 @@ module _ (layout : Layout) (bytes : List ℕ) (s : State) (v : Answer) (j : Judg
     unfolding playOf
     play-refused h e = ap (λ (x : Reply). outcome x out) e ∙ refused-state (λ number place. outcome (reply (refused number place) s) out) (playedFrom (moduleOf bytes) s n out) [] h
 
-    pub play-accepted : (out′ : List ℤ) → v .number ≡ 0 → outcome r out′ ≡ playedFrom (lent layout bytes) (record { song = s .song; voices = s .voices }) n out → outcome r out′ ≡ playOf bytes s n out
+    pub play-accepted : (out′ : List ℤ) → v .number ≡ 0 → outcome r out′ ≡ playedFrom (lent layout bytes) (record { song = s .song; voices = s .voices; remainder = s .remainder }) n out → outcome r out′ ≡ playOf bytes s n out
     unfolding playOf refusing
     play-accepted out′ z e = passed-state (λ number place. outcome (reply (refused number place) s) out) (playedFrom (moduleOf bytes) s n out) [] z (outcome r out′) (rw le at e)

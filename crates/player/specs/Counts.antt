@@ -1,22 +1,30 @@
 -- The count is the largest number of ticks that fit (`count-fits`, `count-most`), and state and buffer are those of so many ticks: on any machine, and for the player.
+-- Ticks at one tempo have exactly the frames that their time says (`exact-room`).
 -- Assumes nothing.
-use Prim.Native.Nat.{ℕ, zero, suc, _≤_}
-use mathlib.Core.Path.{_≡_, refl, ap}
+use Prim.Native.Nat.{ℕ, zero, suc, _*_, _/_, _≤_}
+use mathlib.Core.Path.{_≡_, refl, sym, ap, _∙_}
 use mathlib.Core.List.{List, _∷_}
 use native.Mathlib.Omega.{arith}
 use lib.IntN.{ℤ}
 use lib.ListN.{length, take}
+use Rattle.common.specs.Limits.{leastTempo, greatestTempo}
+use Rattle.common.specs.LimitFacts.{Between}
 use Rattle.ticks.specs.declared.Tick.{Tick}
 use Rattle.ticks.specs.Play.{over, Mechanism, afterAll, rendered, fit, afterFit, playOut}
-use Rattle.reader.specs.File.{Module}
+use Rattle.reader.specs.File.{Module, channelCount}
 use Rattle.sequencer.specs.declared.Song.{Song}
 use Rattle.sequencer.specs.Songs.{tickOf}
-use Rattle.sequencer.specs.Runs.{ticksFrom}
-use Rattle.sequencer.specs.RunLaws.{length-ticks}
+use Rattle.sequencer.specs.Runs.{ticksFrom, songAfter}
+use Rattle.sequencer.specs.RunLaws.{tick-tempo, length-ticks}
 use Rattle.player.specs.declared.State.{State}
 use Rattle.player.specs.Play.{soundings, ticksOf, machineOf, stateAfter, countOf, playedFrom, numbersOf, roomOf}
 use Rattle.ticks.specs.PlayLaws.{fit-le, fit-fits, fit-most}
-use Rattle.machine.specs.Machine.{mechanismOf}
+use Rattle.voice.specs.Voice.{samplesOf}
+use Rattle.voice.specs.Frames.{frameNumbers}
+use Rattle.machine.specs.declared.Machine.{Machine}
+use Rattle.machine.specs.Lengths.{tickFrames}
+use Rattle.machine.specs.Machine.{after, mechanismOf}
+use Rattle.machine.specs.Drift.{AtTempo, no-drift}
 
 take-ticks : (m : Module) (k n : ℕ) (song : Song) (sounding : List ℕ) → k ≤ n → take k (ticksFrom m n song sounding) ≡ ticksFrom m k song sounding
 unfolding ticksFrom
@@ -54,6 +62,26 @@ module _ {A W : Type 0} (k : Mechanism A W Tick) (m : Module) (s : State) (w : W
 -- the state after k ticks
 abbrev pub ticked : Module → ℕ → State → State
 ticked m k s = stateAfter m k s (afterAll (mechanismOf m) (machineOf s) (ticksOf m k s))
+
+-- ticks leave the machine at the song's tempo
+ticks-tempo : (m : Module) (j : ℕ) (song : Song) (sounding : List ℕ) (w : Machine) → w .tempo ≡ song .time .tempo → afterAll (mechanismOf m) w (ticksFrom m j song sounding) .tempo ≡ songAfter m j song sounding .time .tempo
+unfolding songAfter afterAll ticksFrom after
+ticks-tempo m zero song sounding w e = e
+ticks-tempo m (suc j) song sounding w e =
+    let t = tickOf m song sounding in
+    ticks-tempo m j (t .song) _ (mechanismOf m .after w (t .tick)) (sym (tick-tempo m song sounding))
+
+-- so that it is the machine of the state after them
+pub machine-ticked : (m : Module) (k : ℕ) (s : State) → machineOf (ticked m k s) ≡ afterAll (mechanismOf m) (machineOf s) (ticksOf m k s)
+machine-ticked m k s =
+    let w = afterAll (mechanismOf m) (machineOf s) (ticksOf m k s) in
+    ap (λ (tempo : ℕ). record { voices = w .voices; tempo = tempo; remainder = w .remainder }) (sym (ticks-tempo m k (s .song) (soundings (s .voices)) (machineOf s) refl))
+
+-- where k ticks from remainder 0 are all at one tempo, they have exactly (120,000 × k) div tempo frames
+pub exact-room : (m : Module) (k tempo : ℕ) (s : State) → s .remainder ≡ 0 → Between leastTempo greatestTempo tempo → AtTempo tempo (ticksOf m k s) → roomOf m k s ≡ frameNumbers * ((tickFrames * k) / tempo)
+exact-room m k tempo s z b all =
+    no-drift (channelCount m) (samplesOf m) tempo b (ticksOf m k s) all (machineOf s) z
+    ∙ ap (λ (n : ℕ). frameNumbers * ((tickFrames * n) / tempo)) (length-ticks m k (s .song) (soundings (s .voices)))
 
 module _ (m : Module) (n : ℕ) (s : State) (out : List ℤ) where
   -- no more than n ticks are played

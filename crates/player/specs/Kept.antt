@@ -1,4 +1,4 @@
--- A tick keeps a state legal (`tick-kept`), on any machine that has the voices in it and moves them as the commands say; fresh states are legal.
+-- A tick keeps song and voices legal (`tick-kept`), on any machine that has the voices in it and moves them as the commands say; fresh states are legal.
 -- Assumes nothing.
 use Prim.Native.Nat.{ℕ, _<_}
 use mathlib.Core.Path.{_≡_, refl, sym, ap, _∙_}
@@ -21,7 +21,7 @@ use Rattle.reader.specs.Judge.{verdict}
 use Rattle.reader.specs.Accept.{accepted-has}
 use Rattle.reader.specs.Samples.{extentsOf}
 use Rattle.sequencer.specs.declared.Song.{Song}
-use Rattle.sequencer.specs.Songs.{tickOf, freshSounding}
+use Rattle.sequencer.specs.Songs.{tickOf, freshSong, freshSounding}
 use Rattle.sequencer.specs.Kept.{fresh-legal}
 use Rattle.sequencer.specs.Runs.{soundingAfterTick}
 use Rattle.voice.specs.declared.Voice.{Voice}
@@ -35,7 +35,7 @@ use Rattle.machine.specs.Machine.{freshMachine}
 use Rattle.machine.specs.Kept.{machine-fresh}
 use Rattle.player.specs.State.{freshState, legalState}
 use Rattle.player.specs.Play.{soundings}
-use Rattle.player.specs.Legal.{LegalState, state-by}
+use Rattle.player.specs.Legal.{LegalVoiced, state-by}
 use Rattle.sequencer.specs.RunLaws.{run-tick, run-kept}
 use Rattle.machine.specs.Carries.{Carries}
 
@@ -49,7 +49,7 @@ unfolding soundings
 soundings-long vs = length-each (λ i. getD vs i blank .sample) width
 
 -- ---- the next tick of a legal state
-module _ (m : Module) (y : LegalLayout (m .layout)) (e : verdict m .number ≡ 0) (b : Bytes (m .bytes)) (song : Song) (vs : List Voice) (l : LegalState m song vs) where
+module _ (m : Module) (y : LegalLayout (m .layout)) (e : verdict m .number ≡ 0) (b : Bytes (m .bytes)) (song : Song) (vs : List Voice) (l : LegalVoiced m song vs) where
   pub state-run : LegalRun m song (soundings vs)
   state-run =
       record {
@@ -77,15 +77,15 @@ module _ (m : Module) (y : LegalLayout (m .layout)) (e : verdict m .number ≡ 0
             rw (← soundings-at vs i w) (tick-is-legal .commands i (rw (soundings-long vs) w));
       }
 
-module _ {A W : Type 0} (k : Mechanism A W Tick) (voicesOf : W → List Voice) (m : Module) (h : Carries k voicesOf m) (y : LegalLayout (m .layout)) (e : verdict m .number ≡ 0) (b : Bytes (m .bytes)) (song : Song) (w : W) (l : LegalState m song (voicesOf w)) where
+module _ {A W : Type 0} (k : Mechanism A W Tick) (voicesOf : W → List Voice) (m : Module) (h : Carries k voicesOf m) (y : LegalLayout (m .layout)) (e : verdict m .number ≡ 0) (b : Bytes (m .bytes)) (song : Song) (w : W) (l : LegalVoiced m song (voicesOf w)) where
   abbrev vs : List Voice
   vs = voicesOf w
 
   abbrev t : Tick
   t = tickOf m song (soundings vs) .tick
 
-  -- the state after the tick is legal
-  pub tick-kept : LegalState m (tickOf m song (soundings vs) .song) (voicesOf (k .after w t))
+  -- song and voices after the tick are legal
+  pub tick-kept : LegalVoiced m (tickOf m song (soundings vs) .song) (voicesOf (k .after w t))
   tick-kept =
       record {
         song = run-kept m (accepted-has m e) b (y .channels) song (soundings vs) (state-run m y e b song vs l) .song;
@@ -108,12 +108,16 @@ module _ {A W : Type 0} (k : Mechanism A W Tick) (voicesOf : W → List Voice) (
 
 -- ---- fresh states are legal
 pub fresh-state : (m : Module) → LegalLayout (m .layout) → verdict m .number ≡ 0 → legalState m freshState ≡ true
-unfolding freshState freshMachine
+unfolding freshState freshMachine freshSong
 fresh-state m y e =
     state-by m y freshState
     (record {
-      song = fresh-legal (songLength m) (m .layout) (y .channels) (accepted-has m e .song .0);
-      voices = machine-fresh (m .layout) (extentsOf m) (y .channels) .voices;
+      voiced =
+          record {
+            song = fresh-legal (songLength m) (m .layout) (y .channels) (accepted-has m e .song .0);
+            voices = machine-fresh (m .layout) (extentsOf m) (y .channels) .voices;
+          };
+      remainder = omega arith;
     })
 
 -- and their voices sound nothing

@@ -31,10 +31,10 @@ use Rattle.player.specs.declared.State.{State}
 use Rattle.player.specs.declared.Reply.{Reply}
 use Rattle.player.specs.State.{legalState, reply}
 use Rattle.player.specs.Play.{soundings, machineOf, ticksOf, countOf, playedFrom, playOf, numbersOf, roomOf}
-use Rattle.player.specs.Legal.{LegalState, state-has, state-by}
+use Rattle.player.specs.Legal.{LegalVoiced, LegalState, state-has, state-by}
 use Rattle.player.specs.Kept.{state-run, tick-is-legal, tick-kept, after-soundings}
-use Rattle.player.specs.Counts.{ticked, count-fits, played-state, played-out}
-use Rattle.player.specs.Keeps.{ticks-kept, ticks-soundings, play-accepted}
+use Rattle.player.specs.Counts.{ticked, machine-ticked, count-fits, played-state, played-out}
+use Rattle.player.specs.Keeps.{ticks-soundings, ticked-legal, play-accepted}
 use Rattle.machine.specs.Carries.{carries}
 
 -- two plays as one: the counts added, the state of the second, and the first p cells of the first buffer followed by the second buffer
@@ -48,11 +48,11 @@ module _ (bytes : List ℕ) (e : verdict (moduleOf bytes) .number ≡ 0) (b : By
   abbrev m : Module
   m = moduleOf bytes
 
-  facts : LegalState m (s .song) (s .voices)
+  facts : LegalState m s
   facts = state-has m (module-legal bytes) s long l
 
   soundings-after : (a : ℕ) → soundings (ticked m a s .voices) ≡ soundingAfter m a (s .song) (soundings (s .voices))
-  soundings-after a = ticks-soundings (mechanismOf m) (λ w. w .voices) m (carries m (module-legal bytes)) (module-legal bytes) e b a (s .song) (machineOf s) facts
+  soundings-after a = ticks-soundings (mechanismOf m) (λ w. w .voices) m (carries true m (module-legal bytes)) (module-legal bytes) e b a (s .song) (machineOf s) (facts .voiced)
 
   -- the ticks, the state after them, the count and the buffer of a + c ticks
   ticks-then : (a c : ℕ) → ticksOf m (a + c) s ≡ ticksOf m a s ++ ticksOf m c (ticked m a s)
@@ -60,7 +60,7 @@ module _ (bytes : List ℕ) (e : verdict (moduleOf bytes) .number ≡ 0) (b : By
 
   ticked-add : (a c : ℕ) → ticked m (a + c) s ≡ ticked m c (ticked m a s)
   ticked-add a c =
-      rw (song-add m a c (s .song) (soundings (s .voices)), ticks-then a c, after-append (mechanismOf m) (machineOf s) (ticksOf m a s) (ticksOf m c (ticked m a s)), soundings-after a)
+      rw (song-add m a c (s .song) (soundings (s .voices)), ticks-then a c, after-append (mechanismOf m) (machineOf s) (ticksOf m a s) (ticksOf m c (ticked m a s)), soundings-after a, machine-ticked m a s)
 
   module _ (a c : ℕ) (out : List ℤ) (all : countOf m a s out ≡ a) where
     all-fit : roomOf m a s ≤ length out
@@ -68,7 +68,7 @@ module _ (bytes : List ℕ) (e : verdict (moduleOf bytes) .number ≡ 0) (b : By
 
     count-add : countOf m (a + c) s out ≡ a + countOf m c (ticked m a s) (drop (roomOf m a s) out)
     count-add =
-        rw (ticks-then a c, length-drop (roomOf m a s) out)
+        rw (ticks-then a c, machine-ticked m a s, length-drop (roomOf m a s) out)
         (fit-append (mechanismOf m) (length out) (machineOf s) (ticksOf m a s) (ticksOf m c (ticked m a s)) all-fit
         ∙ rw (length-ticks m a (s .song) (soundings (s .voices))))
 
@@ -84,7 +84,7 @@ module _ (bytes : List ℕ) (e : verdict (moduleOf bytes) .number ≡ 0) (b : By
 
     out-add : playedFrom m s (a + c) out .out ≡ take (roomOf m a s) (playedFrom m s a out .out) ++ playedFrom m (ticked m a s) c (drop (roomOf m a s) out) .out
     unfolding playedFrom
-    out-add = rw (first-out, ticks-then a c) (play-append (mechanismOf m) (machineOf s) (ticksOf m a s) (ticksOf m c (ticked m a s)) out all-fit)
+    out-add = rw (first-out, ticks-then a c, machine-ticked m a s) (play-append (mechanismOf m) (machineOf s) (ticksOf m a s) (ticksOf m c (ticked m a s)) out all-fit)
 
   -- a call that plays all of its a ticks, and then a call for c ticks on the state after it and the rest of the buffer, are one call for a + c ticks
   pub play-add : (a c : ℕ) (out : List ℤ) → playOf bytes s a out .reply .answer .count ≡ a → playOf bytes s (a + c) out ≡ joined (roomOf (moduleOf bytes) a s) (playOf bytes s a out) (playOf bytes (playOf bytes s a out .reply .state) c (drop (roomOf (moduleOf bytes) a s) out))
@@ -93,7 +93,7 @@ module _ (bytes : List ℕ) (e : verdict (moduleOf bytes) .number ≡ 0) (b : By
       let first = play-accepted bytes e s l a out in
       let whole : countOf m a s out ≡ a = rw first at all in
       let next : playedFrom m s a out .reply .state ≡ ticked m a s = played-state m a s out ∙ ap (λ (k : ℕ). ticked m k s) whole in
-      let kept : legalState m (ticked m a s) ≡ true = state-by m (module-legal bytes) _ (ticks-kept (mechanismOf m) (λ w. w .voices) m (carries m (module-legal bytes)) (module-legal bytes) e b a (s .song) (machineOf s) facts) in
+      let kept : legalState m (ticked m a s) ≡ true = state-by m (module-legal bytes) _ (ticked-legal m (module-legal bytes) e b s facts a) in
       let rest = drop (roomOf m a s) out in
       rw (first, play-accepted bytes e s l (a + c) out, next, play-accepted bytes e (ticked m a s) kept c rest)
       (outcome-is (playedFrom m s (a + c) out) _ _ _ (ap accepted (count-add a c out whole ∙ ap (λ (k : ℕ). k + countOf m c (ticked m a s) rest) (sym whole))) (state-add a c out whole) (out-add a c out whole))
@@ -105,23 +105,23 @@ append-each P d (x ∷ xs) ys f g zero = f 0
 append-each P d (x ∷ xs) ys f g (suc j) = append-each P d xs ys (λ i. f (suc i)) g j
 
 module _ (m : Module) (y : LegalLayout (m .layout)) (e : verdict m .number ≡ 0) (b : Bytes (m .bytes)) where
-  tick-fits : (song : Song) (w : Machine) → LegalState m song (w .voices) → (j : ℕ) → mag (getD (frames (channelCount m) (samplesOf m) w (tickOf m song (soundings (w .voices)) .tick)) j (pos 0)) < half16
+  tick-fits : (song : Song) (w : Machine) → LegalVoiced m song (w .voices) → (j : ℕ) → mag (getD (frames (channelCount m) (samplesOf m) w (tickOf m song (soundings (w .voices)) .tick)) j (pos 0)) < half16
   tick-fits song w l =
       let vs = w .voices in
       frames-fit (channelCount m) (samplesOf m) w (tickOf m song (soundings vs) .tick) (y .channels) (samples-bytes m (extentsOf m) b)
       (λ i h. tick-is-legal m y e b song vs l .commands i (omega (arith, y .channels, state-run m y e b song vs l .sounding .long)) .volume)
 
-  ticks-fit : (k : ℕ) (song : Song) (w : Machine) → LegalState m song (w .voices) → (j : ℕ) → mag (getD (rendered (mechanismOf m) w (ticksFrom m k song (soundings (w .voices)))) j (pos 0)) < half16
+  ticks-fit : (k : ℕ) (song : Song) (w : Machine) → LegalVoiced m song (w .voices) → (j : ℕ) → mag (getD (rendered (mechanismOf m) w (ticksFrom m k song (soundings (w .voices)))) j (pos 0)) < half16
   unfolding rendered ticksFrom
   ticks-fit zero song w l = λ j. omega arith
   ticks-fit (suc k) song w l =
       let t = tickOf m song (soundings (w .voices)) in
       let next = mechanismOf m .after w (t .tick) in
-      let h = carries m y in
+      let h = carries true m y in
       append-each (λ (z : ℤ). mag z < half16) (pos 0) (mechanismOf m .frames w (t .tick)) _ (tick-fits song w l)
       (subst (λ (sounding : List ℕ). (j : ℕ) → mag (getD (rendered (mechanismOf m) next (ticksFrom m k (t .song) sounding)) j (pos 0)) < half16)
       (after-soundings (mechanismOf m) (λ x. x .voices) m h y e b song w l) (ticks-fit k (t .song) next (tick-kept (mechanismOf m) (λ x. x .voices) m h y e b song w l)))
 
   -- no number of any number of ticks leaves 16 bits signed
   pub numbers-in-16 : (s : State) → length (s .voices) ≡ width → legalState m s ≡ true → (k j : ℕ) → mag (getD (numbersOf m k s) j (pos 0)) < half16
-  numbers-in-16 s long l k = ticks-fit k (s .song) (machineOf s) (state-has m y s long l)
+  numbers-in-16 s long l k = ticks-fit k (s .song) (machineOf s) (state-has m y s long l .voiced)

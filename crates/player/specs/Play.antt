@@ -27,13 +27,13 @@ soundings vs = each (λ i. getD vs i blank .sample) width
 abbrev pub ticksOf : Module → ℕ → State → List Tick
 ticksOf m n s = ticksFrom m n (s .song) (soundings (s .voices))
 
--- the state's machine
+-- the state's machine: the song's tempo is the tick before's
 abbrev pub machineOf : State → Machine
-machineOf s = record { voices = s .voices }
+machineOf s = record { voices = s .voices; tempo = s .song .time .tempo; remainder = s .remainder }
 
 -- the state after k ticks of the song, with this machine
 abbrev pub stateAfter : Module → ℕ → State → Machine → State
-stateAfter m k s w = record { song = songAfter m k (s .song) (soundings (s .voices)); voices = w .voices }
+stateAfter m k s w = record { song = songAfter m k (s .song) (soundings (s .voices)); voices = w .voices; remainder = w .remainder }
 
 -- the largest number of whole ticks, up to n, whose frames fit
 abbrev pub countOf : Module → ℕ → State → List ℤ → ℕ

@@ -19,10 +19,10 @@ use Rattle.sequencer.specs.Songs.{tickOf}
 use Rattle.sequencer.specs.Runs.{soundingAfterTick, ticksFrom, songAfter}
 use Rattle.voice.specs.declared.Voice.{Voice}
 use Rattle.machine.specs.Turn.{Turned, turnOf}
-use Rattle.machine.specs.Turns.{stops-same, playing-stops, playing-turns, machine-after}
+use Rattle.machine.specs.Turns.{turn-machine, stops-same, playing-stops, playing-turns}
 use Rattle.player.specs.declared.State.{State}
 use Rattle.player.specs.Play.{soundings, ticksOf}
-use Rattle.player.specs.Legal.{LegalState}
+use Rattle.player.specs.Legal.{LegalVoiced}
 use Rattle.player.specs.Kept.{tick-kept, after-soundings}
 use Rattle.reader.specs.Layouts.{LegalLayout}
 use Rattle.machine.specs.Carries.{Carries}
@@ -43,7 +43,7 @@ module _ {A W : Type 0} (k : Mechanism A W Tick) (voicesOf : W → List Voice) (
     pub judge : verdict m .number ≡ 0
     pub bytes : Bytes (m .bytes)
     pub carries : Carries k voicesOf m
-    pub legal : LegalState m song (voicesOf w)
+    pub legal : LegalVoiced m song (voicesOf w)
     pub low : i ≤ n
     pub there : (j : ℕ) → songAfter m (i + j) (s₀ .song) (soundings (s₀ .voices)) ≡ songAfter m j song (soundings (voicesOf w))
     pub playing : Playing k w₀ (ticksOf m n s₀) out₀ w (ticksFrom m (n - i) song (soundings (voicesOf w))) out at i
@@ -55,7 +55,7 @@ module _ {A W : Type 0} (k : Mechanism A W Tick) (voicesOf : W → List Voice) (
     pub machine : w ≡ afterFit k (length out₀) w₀ (ticksOf m n s₀)
     pub cells : out ≡ playOut k w₀ (ticksOf m n s₀) out₀
 
-  pub running-none : (s₀ : State) (w₀ : W) (n : ℕ) (out₀ : List A) → LegalLayout (m .layout) → verdict m .number ≡ 0 → Bytes (m .bytes) → Carries k voicesOf m → LegalState m (s₀ .song) (voicesOf w₀) → voicesOf w₀ ≡ s₀ .voices
+  pub running-none : (s₀ : State) (w₀ : W) (n : ℕ) (out₀ : List A) → LegalLayout (m .layout) → verdict m .number ≡ 0 → Bytes (m .bytes) → Carries k voicesOf m → LegalVoiced m (s₀ .song) (voicesOf w₀) → voicesOf w₀ ≡ s₀ .voices
       → Running s₀ w₀ n out₀ (s₀ .song) w₀ out₀ 0 0
   running-none s₀ w₀ n out₀ y e b c l v =
       let z : n - 0 ≡ n = omega arith in
@@ -101,7 +101,7 @@ module _ {A W : Type 0} (k : Mechanism A W Tick) (voicesOf : W → List Voice) (
       unfolding songAfter
       running-more f =
           let next = next-ticks m n i song (soundings (voicesOf w)) h in
-          let v : r .machine ≡ k .after w t = machine-after k w₀ (ticksOf m n s₀) out₀ w _ out at i (g .playing) t _ next r q f in
+          let v : r .machine ≡ k .after w t = turn-machine k w t (take (length out - at) (drop at out)) r q f in
           let heard = after-soundings k voicesOf m (g .carries) (g .layout) (g .judge) (g .bytes) song w (g .legal) in
           let turns = playing-turns k w₀ (ticksOf m n s₀) out₀ w _ out at i (g .playing) t _ next r q f in
           rw v

@@ -1,7 +1,8 @@
--- The state: a song and its voices; which are fresh and which are legal for a module. What a call that is given a state refuses first.
+-- The state: a song, its voices and the remainder; which are fresh and which are legal for a module. What a call that is given a state refuses first.
 -- Assumes nothing.
 use mathlib.Core.Bool.{Bool, not}
 use mathlib.Core.List.{List, [], _∷_}
+use lib.Dec.{ltb}
 use Rattle.laws.specs.Ranges.{each, all}
 use Rattle.common.specs.Answers.{Line, line}
 use Rattle.common.specs.declared.Answer.{Answer}
@@ -16,13 +17,17 @@ use Rattle.voice.specs.Legal.{legalVoices}
 use Rattle.player.specs.declared.State.{State}
 use Rattle.player.specs.declared.Reply.{Reply}
 
--- fresh: the song fresh, each voice stopped, its numbers 0
+-- fresh: the song fresh, each voice stopped, its numbers 0, remainder 0
 unfoldable pub freshState : State
-freshState = record { song = freshSong; voices = each (λ i. freshVoice) width }
+freshState = record { song = freshSong; voices = each (λ i. freshVoice) width; remainder = 0 }
 
--- legal: the song, and each voice with its sample's end
+-- legal: the song, each voice with its sample's end, and the remainder below tempo
 abbrev pub stateTests : Module → State → List Bool
-stateTests m s = legalSong (songLength m) (m .layout) (s .song) ∷ legalVoices (m .layout) (extentsOf m) (s .voices) ∷ []
+stateTests m s =
+    legalSong (songLength m) (m .layout) (s .song)
+    ∷ legalVoices (m .layout) (extentsOf m) (s .voices)
+    ∷ ltb (s .remainder) (s .song .time .tempo)
+    ∷ []
 
 unfoldable pub legalState : Module → State → Bool
 legalState m s = all (stateTests m s)

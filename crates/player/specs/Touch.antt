@@ -13,9 +13,9 @@ use Rattle.player.specs.declared.State.{State}
 use Rattle.player.specs.declared.Reply.{Reply}
 use Rattle.player.specs.State.{stateLines, reply}
 
--- the state with another song, its voices as they were
+-- the state with another song, its voices and its remainder as they were
 abbrev pub withSong : State → Song → State
-withSong s song = record { song = song; voices = s .voices }
+withSong s song = record { song = song; voices = s .voices; remainder = s .remainder }
 
 -- ---- a page change
 -- adds 1 to the page modulo 2^32

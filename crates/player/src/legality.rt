@@ -17,7 +17,8 @@ fn legal_state(layout: Layout, file: &[u8], positions: u32, state: State) -> boo
 {
     let song = sequencer::legality::legal(positions, layout, state.song);
     let voices = state.voices;
-    song & voice::legal::legal_voices(layout, reader::samples::extents(layout, file), voices)
+    let low = state.remainder < state.song.time.tempo;
+    song & voice::legal::legal_voices(layout, reader::samples::extents(layout, file), voices) & low
 }
 
 // 1 to 9, then 14: what every call that is given a state judges first.

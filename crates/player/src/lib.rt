@@ -13,10 +13,11 @@ mod legality;
 mod moves;
 mod playing;
 
-// A state: the song and its voices. Any numbers may stand in it.
+// A state: the song, its voices and the remainder of the tick before. Any numbers may stand in it.
 pub struct State {
     pub song: Song,
     pub voices: [Voice; WIDTH],
+    pub remainder: u32,
 }
 
 // What a call returns: its answer, and the state after it.
@@ -45,6 +46,7 @@ pub fn fresh() -> State
     State {
         song: sequencer::fresh(),
         voices: voices,
+        remainder: 0,
     }
 }
 
@@ -60,7 +62,7 @@ pub fn play(file: &[u8], state: State, ticks: u32, out: &mut [i16]) -> Reply
     }
     let song = state.song;
     let voices = state.voices;
-    playing::play_ticks(layout, file, song, voices, ticks, out)
+    playing::play_ticks(layout, file, song, voices, state.remainder, ticks, out)
 }
 
 // A page change: touches made on the page before are refused from now on.

@@ -1,7 +1,11 @@
 // Playing ticks one by one into a buffer.
 ghost use mathlib.Core.Path.{_≡_};
 ghost use Rattle.common.specs.Answers.{accepted, outcome};
-ghost use Rattle.reader.specs.File.{lent};
+ghost use Rattle.reader.specs.File.{lent, songLength};
+ghost use Rattle.reader.specs.Judge.{verdict};
+ghost use Rattle.reader.specs.Layouts.{LegalLayout};
+ghost use Rattle.sequencer.specs.LegalFacts.{LegalSong};
+ghost use Rattle.sequencer.specs.Songs.{tickOf};
 ghost use Rattle.player.specs.State.{reply};
 ghost use Rattle.player.specs.Play.{soundings, playedFrom};
 ghost use Rattle.player.specs.Legal.{Playable};
@@ -11,6 +15,7 @@ use common::limits::WIDTH;
 use machine::Machine;
 use reader::Layout;
 use sequencer::Song;
+use sequencer::Worked;
 use voice::Voice;
 
 // The sounding sample numbers.
@@ -24,8 +29,19 @@ fn soundings(voices: [Voice; WIDTH]) -> [u32; WIDTH]
     samples
 }
 
+// The song's next tick, beside the machine's sounding samples.
+fn next_tick(layout: Layout, file: &[u8], song: Song, machine: Machine) -> Worked
+    requires layout { ⌜ LegalLayout layout ⌝ }
+    requires accepted { ⌜ verdict (lent layout (now file)) .number ≡ 0 ⌝ }
+    requires legal { ⌜ LegalSong (songLength (lent layout (now file))) layout song ⌝ }
+    ensures { λ r. ⌜ r ≡ tickOf (lent layout (now (file .entry))) song (soundings (machine .voices)) ⌝ }
+{
+    let voices = machine.voices;
+    sequencer::tick(layout, file, song, soundings(voices))
+}
+
 fn after_ticks(song: Song, machine: Machine, count: u32) -> Reply
-    ensures { λ r. ⌜ r ≡ reply (accepted count) (record { song = song; voices = machine .voices }) ⌝ }
+    ensures { λ r. ⌜ r ≡ reply (accepted count) (record { song = song; voices = machine .voices; remainder = machine .remainder }) ⌝ }
 {
     let voices = machine.voices;
     Reply {
@@ -33,6 +49,7 @@ fn after_ticks(song: Song, machine: Machine, count: u32) -> Reply
         state: State {
             song: song,
             voices: voices,
+            remainder: machine.remainder,
         },
     }
 }
@@ -43,23 +60,27 @@ pub fn play_ticks(
     file: &[u8],
     start: Song,
     sounding: [Voice; WIDTH],
+    left: u32,
     n: u32,
     out: &mut [i16],
 ) -> Reply
-    requires { ⌜ Playable (lent layout (now file)) (record { song = start; voices = sounding }) ⌝ }
-    ensures { λ r. ⌜ outcome r (now (out .exit)) ≡ playedFrom (lent layout (now (file .entry))) (record { song = start; voices = sounding }) n (now (out .entry)) ⌝ }
+    requires { ⌜ Playable (lent layout (now file)) (record { song = start; voices = sounding; remainder = left }) ⌝ }
+    ensures { λ r. ⌜ outcome r (now (out .exit)) ≡ playedFrom (lent layout (now (file .entry))) (record { song = start; voices = sounding; remainder = left }) n (now (out .entry)) ⌝ }
 {
     let extents = reader::samples::extents(layout, file);
     let mut song = start;
-    let mut machine = Machine { voices: sounding };
+    let mut machine = Machine {
+        voices: sounding,
+        tempo: start.time.tempo,
+        remainder: left,
+    };
     let mut at: usize = 0;
     let mut i: u32 = 0;
     while i < n {
-        let voices = machine.voices;
-        let worked = sequencer::tick(layout, file, song, soundings(voices));
+        let worked = next_tick(layout, file, song, machine);
         let next = worked.song;
         let tick = worked.tick;
-        let turn = machine::play_tick(layout, file, extents, machine, tick, &mut out[at..]);
+        let turn = machine::play_tick(layout, file, extents, machine, tick, true, &mut out[at..]);
         if turn.full {
             return after_ticks(song, machine, i);
         }

@@ -45,13 +45,21 @@ abbrev pub startPlace : ℕ
 startPlace = 4
 
 -- ---- versions
+-- the first version, whose ticks keep no remainder
+abbrev pub firstVersion : ℕ
+firstVersion = 1
+
 -- the version that is written
 abbrev pub version : ℕ
-version = 1
+version = 2
 
 -- the versions that are read
 unfoldable pub knownVersion : ℕ → Bool
-knownVersion v = eqb v 1
+knownVersion v = between firstVersion version v
+
+-- whether a stream's ticks keep a remainder: version 1 streams play by the old rule
+unfoldable pub keeps : List ℕ → Bool
+keeps s = not (eqb (byteAt s versionPlace) firstVersion)
 
 -- ---- the writer
 -- the registers at first: 0
@@ -179,7 +187,7 @@ decodeRecords last c s zero at registers = cond (eqb at (length s)) (ticks []) (
 decodeRecords last c s (suc n) at registers =
     readOn (refusal 23 at) (readRecord last c s at registers) (λ t p. withTick t (decodeRecords last c s n p (t .commands)))
 
--- 21: stream under 9 bytes, or its length isn't 4 plus its first number; its length. 22: version byte isn't known; 4
+-- 21: stream under 9 bytes, or its length isn't 4 plus its first number; its length. 22: version byte isn't 1 or 2; 4
 unfoldable pub decodeAfter : ℕ → ℕ → List Command → List ℕ → Decoded
 decodeAfter last c registers s =
     refusing refusal (decodeRecords last c s (fourAt s countPlace) recordsPlace registers)

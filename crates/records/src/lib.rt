@@ -15,8 +15,10 @@ use common::limits::WIDTH;
 use ticks::Command;
 use ticks::Tick;
 
-// The version that is written, its place, and those of the tick count and the first record.
-pub const VERSION: u8 = 1;
+// The first version, the version that is written, the version's place, and those of the tick count and the first record.
+pub const FIRST_VERSION: u8 = 1;
+
+pub const VERSION: u8 = 2;
 
 pub const VERSION_PLACE: usize = 4;
 

@@ -1,15 +1,15 @@
 -- The loop: the ticks that are played, followed by those of the records that are left, are the whole stream's (`Turning`).
-use Rattle.board.proofs.Turns.{good-long, Turning, turning-begin, turning-layout, turning-few, turning-within, turning-narrow, turning-next, turning-all, turning-tempo, turning-ready, turning-full, turning-long, turning-more}
+use Rattle.board.proofs.Turns.{good-long, Turning, turning-begin, turning-layout, turning-few, turning-low, turning-within, turning-narrow, turning-next, turning-all, turning-tempo, turning-ready, turning-full, turning-long, turning-more}
 use Prim.Native.Nat.{_-_}
 use borrow.Author.Needs.{needs}
 use Rattle.board.proofs.play_records.Statement.{statement}
 use Rattle.board.proofs.play_records.Tie as tie
 
 abbrev Inv-loop : tie.InvT-loop
-Inv-loop layout file stream out₀ extents last count machine₀ registers₀ from₀ at₀ i₀ out machine registers from at i = Turning layout file stream extents last count out₀ machine registers from out at i
+Inv-loop layout file stream out₀ extents last count keeping machine₀ registers₀ from₀ at₀ i₀ out machine registers from at i = Turning layout file stream extents last count keeping out₀ machine registers from out at i
 
 abbrev μ-loop : tie.MeasureT-loop
-μ-loop layout file stream out₀ extents last count machine₀ registers₀ from₀ at₀ i₀ out machine registers from at i = count - i
+μ-loop layout file stream out₀ extents last count keeping machine₀ registers₀ from₀ at₀ i₀ out machine registers from at i = count - i
 
 pub play-records-spec : {M : Type 1} → statement M
 play-records-spec =
@@ -20,6 +20,7 @@ play-records-spec =
     (λ c κs. search needs)
     (λ c. search needs)
     (λ c κs. search (good-long, needs))
+    (λ c κs. search (good-long, needs))
     (λ c κs. search needs)
     (λ c κs. search needs)
     (λ c. search (turning-begin, needs))
@@ -28,7 +29,7 @@ play-records-spec =
     (λ c. search needs)
     (λ c. search needs)
     (λ c. search needs)
-    (λ c κs. search (turning-layout, turning-ready, turning-tempo, needs))
+    (λ c κs. (search (turning-layout, needs), (search (turning-ready, needs), (search (turning-tempo, needs), search (turning-low, needs)))))
     (λ c κs. search needs)
     (λ c. search (turning-long, needs))
     (λ c. search (turning-full, needs))

@@ -6,4 +6,13 @@ use Rattle.machine.proofs.play_tick.Tie as tie
 
 pub play-tick-spec : {M : Type 1} → statement M
 play-tick-spec =
-    tie.close (tie.spec (λ c κs. search needs) (λ c. search needs) (λ c. search (tick-full, needs)) (λ c κs. search needs) (λ c. search needs) (λ c. search (tick-played, needs)))
+    tie.close
+    (tie.spec
+    (λ c κs. search needs)
+    (λ c κs. search needs)
+    (λ c. search needs)
+    (λ c. search (tick-full, needs))
+    (λ c κs. search needs)
+    (λ c κs. search needs)
+    (λ c. search needs)
+    (λ c. search (tick-played, needs)))

@@ -1,4 +1,4 @@
--- The two tests are those of the definition.
+-- The three tests are those of the definition.
 use Rattle.player.proofs.Verdicts.{state-tested}
 use borrow.Author.Needs.{needs}
 use Rattle.player.proofs.legality.legal_state.Statement.{statement}

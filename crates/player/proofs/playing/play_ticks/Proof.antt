@@ -1,15 +1,15 @@
 -- The loop: what is played, followed by what is left to play, is the whole (`Turning`); the sequencer gives the next tick, the machine plays it.
-use Rattle.player.proofs.Turns.{Turning, turning-begin, turning-layout, turning-judged, turning-song, turning-within, turning-narrow, turning-next, turning-step, turning-all, turning-tempo, turning-ready, turning-full, turning-long, turning-more}
+use Rattle.player.proofs.Turns.{Turning, turning-begin, turning-within, turning-narrow, turning-next, turning-step, turning-all, turning-tempo, turning-ready, turning-full, turning-long, turning-more}
 use Prim.Native.Nat.{_-_}
 use borrow.Author.Needs.{needs}
 use Rattle.player.proofs.playing.play_ticks.Statement.{statement}
 use Rattle.player.proofs.playing.play_ticks.Tie as tie
 
 abbrev Inv-loop : tie.InvT-loop
-Inv-loop layout file n out₀ extents song₀ machine₀ at₀ i₀ out song machine at i = Turning layout file extents (record { song = song₀; voices = machine₀ .voices }) n out₀ song machine out at i
+Inv-loop layout file left n out₀ extents song₀ machine₀ at₀ i₀ out song machine at i = Turning layout file extents (record { song = song₀; voices = machine₀ .voices; remainder = machine₀ .remainder }) n out₀ song machine out at i
 
 abbrev μ-loop : tie.MeasureT-loop
-μ-loop layout file n out₀ extents song₀ machine₀ at₀ i₀ out song machine at i = n - i
+μ-loop layout file left n out₀ extents song₀ machine₀ at₀ i₀ out song machine at i = n - i
 
 pub play-ticks-spec : {M : Type 1} → statement M
 play-ticks-spec =
@@ -20,12 +20,11 @@ play-ticks-spec =
     (λ c κs. search needs)
     (λ c. search (turning-begin, needs))
     (λ c κs. search needs)
-    (λ c κs. search (turning-layout, turning-judged, turning-song, needs))
     (λ c. search (turning-within, turning-narrow, needs))
     (λ c. search needs)
     (λ c. search needs)
     (λ c. search needs)
-    (λ c κs. search (turning-layout, turning-ready, turning-tempo, needs))
+    (λ c κs. (search needs, (search (turning-ready, needs), (search (turning-tempo, needs), search needs))))
     (λ c κs. search needs)
     (λ c. search (turning-long, needs))
     (λ c. search (turning-full, needs))
