@@ -2,7 +2,7 @@
    frames to OUT as 16-bit numbers. It ends with 1 where stream or module is refused, and with 2 where a file cannot be read or written. */
 #include "files.h"
 
-enum { STREAM_START = 9, COMMAND_BYTES = 6, MODULE_REFUSALS = 10 };
+enum { STREAM_VERSION = 4, STREAM_START = 9, COMMAND_BYTES = 6, MODULE_REFUSALS = 10 };
 
 typedef struct board {
     uint8_t *stream, *module;
@@ -11,12 +11,17 @@ typedef struct board {
     size_t numbers;
 } board;
 
-/* The numbers of the first `ticks` ticks of an accepted stream: a pass over the records' tempos. */
+/* The numbers of the first `ticks` ticks of an accepted stream: a pass over the records' tempos. What a tick leaves over goes to the next
+   one at its tempo; by version 1 it is lost. */
 static size_t numbers_of(const uint8_t *stream, uint64_t ticks) {
     size_t at = STREAM_START, numbers = 0;
+    unsigned before = 0, remainder = 0;
     for (; ticks > 0; ticks--) {
-        unsigned mask = stream[at];
-        numbers += LAMPTHISTLE_NUMBERS_AT(stream[at + 1]);
+        unsigned mask = stream[at], tempo = stream[at + 1];
+        if (tempo != before || stream[STREAM_VERSION] == 1) remainder = 0;
+        numbers += 2 * ((120000 + remainder) / tempo);
+        remainder = (120000 + remainder) % tempo;
+        before = tempo;
         for (at += 2; mask != 0; mask >>= 1) at += mask & 1 ? COMMAND_BYTES : 0;
     }
     return numbers;

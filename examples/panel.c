@@ -114,10 +114,11 @@ static void take_events(panel *p) {
 
 static int play_tick(panel *p) {
     uint64_t answer[LAMPTHISTLE_ANSWER_CELLS];
+    lampthistle_state before = p->state;
     lampthistle_play(p->module, p->length, p->state.cell, 1, p->tick, LAMPTHISTLE_TICK_NUMBERS, answer);
     if (answer[LAMPTHISTLE_NUMBER] != LAMPTHISTLE_ACCEPTED) return 0;
     p->taken = 0;
-    p->filled = LAMPTHISTLE_NUMBERS_AT(p->state.cell[LAMPTHISTLE_TEMPO]);
+    p->filled = lampthistle_tick_numbers(before.cell, p->state.cell);
     p->ticks++;
     add_frames(p);
     return 1;

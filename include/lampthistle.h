@@ -20,9 +20,11 @@
    LAMPTHISTLE_STACK_BYTES of stack, whatever its input.
 
    FRAMES
-   48,000 frames a second, two signed 16-bit numbers a frame, left first. A tick has 120,000 div tempo frames: 960 at tempo 125, at
-   most 3,750 at tempo 32. Only whole ticks are played, so a buffer of LAMPTHISTLE_TICK_NUMBERS always takes one. To pull sound as it
-   is needed, play one tick a call; the state's tempo cell then says how long that tick was.
+   48,000 frames a second, two signed 16-bit numbers a frame, left first. A tick has (120,000 + remainder) div tempo frames, and the
+   rest modulo tempo is the next tick's remainder, so that n ticks at one tempo have (120,000 n) div tempo frames: 960 a tick at tempo
+   125, 470 or 471 at tempo 255, never more than 3,750. A tick whose tempo is not that of the tick before begins with remainder 0. Only
+   whole ticks are played, so a buffer of LAMPTHISTLE_TICK_NUMBERS always takes one. To pull sound as it is needed, play one tick a
+   call; lampthistle_tick_numbers then says how many numbers it wrote.
 
    STATES
    A state is LAMPTHISTLE_STATE_CELLS plain numbers. lampthistle_fresh makes the first one; it may be copied, stored and sent, and
@@ -41,7 +43,9 @@
 
    STREAMS
    A stream holds the ticks of a song as registers for a sound board: tempo, and for each channel sample, volume, period and start.
-   The board takes samples from the module, never its patterns or table. docs/FORMATS.md gives every byte. */
+   The board takes samples from the module, never its patterns or table. Translation writes version 2, whose ticks are as long as the
+   player's. A stream of version 1, which the library wrote before 0.2.0, is played as it was then: each tick has 120,000 div tempo
+   frames, with no remainder. docs/FORMATS.md gives every byte. */
 #ifndef LAMPTHISTLE_H
 #define LAMPTHISTLE_H
 
@@ -53,21 +57,19 @@ extern "C" {
 #endif
 
 #define LAMPTHISTLE_VERSION_MAJOR 0
-#define LAMPTHISTLE_VERSION_MINOR 1
+#define LAMPTHISTLE_VERSION_MINOR 2
 #define LAMPTHISTLE_VERSION_PATCH 0
 /* This header's version as one number, and as text. */
 #define LAMPTHISTLE_VERSION (1000000 * LAMPTHISTLE_VERSION_MAJOR + 1000 * LAMPTHISTLE_VERSION_MINOR + LAMPTHISTLE_VERSION_PATCH)
-#define LAMPTHISTLE_VERSION_TEXT "0.1.0"
+#define LAMPTHISTLE_VERSION_TEXT "0.2.0"
 /* Whether cells, refusals and calls of a version are those of this header. */
 #define LAMPTHISTLE_SAME_CELLS(version) ((version) / 1000 == LAMPTHISTLE_VERSION / 1000)
 
 #define LAMPTHISTLE_RATE 48000
 #define LAMPTHISTLE_CHANNELS 4
-#define LAMPTHISTLE_STATE_CELLS 56
+#define LAMPTHISTLE_STATE_CELLS 57
 /* The most numbers that one tick takes: 3,750 frames at tempo 32. */
 #define LAMPTHISTLE_TICK_NUMBERS 7500
-/* The numbers of a tick at a tempo from 32 to 255. */
-#define LAMPTHISTLE_NUMBERS_AT(tempo) (2 * (120000 / (size_t)(tempo)))
 /* The most ticks that one translation takes. */
 #define LAMPTHISTLE_MOST_TICKS 65535
 /* The most stack that one call takes. */
@@ -131,7 +133,7 @@ static inline const char *lampthistle_refusal_text(uint64_t number) {
     case LAMPTHISTLE_REFUSED_POSITION: return "the touch names a position at or past the song length";
     case LAMPTHISTLE_REFUSED_STREAM_LENGTH:
         return "the stream is shorter than 9 bytes, or its length is not 4 plus its first number";
-    case LAMPTHISTLE_REFUSED_STREAM_VERSION: return "the stream's version is not 1";
+    case LAMPTHISTLE_REFUSED_STREAM_VERSION: return "the stream's version is neither 1 nor 2";
     case LAMPTHISTLE_REFUSED_RECORD: return "a record of the stream is bad, or bytes are left over";
     default: return "an unknown refusal";
     }
@@ -153,7 +155,8 @@ enum lampthistle_cell {
     LAMPTHISTLE_LOOP_COUNT,
     LAMPTHISTLE_SPEED,
     LAMPTHISTLE_TEMPO,
-    LAMPTHISTLE_CLOCK, /* ticks played, modulo 2^32 */
+    LAMPTHISTLE_REMAINDER, /* what the ticks at this tempo left over, below the tempo */
+    LAMPTHISTLE_CLOCK,     /* ticks played, modulo 2^32 */
     LAMPTHISTLE_PAGE,
     LAMPTHISTLE_FIRST_CHANNEL /* the four channels' cells begin here */
 };
@@ -178,13 +181,21 @@ enum lampthistle_channel_cell {
 #define LAMPTHISTLE_CHANNEL_CELL(channel, which) \
     (LAMPTHISTLE_FIRST_CHANNEL + LAMPTHISTLE_CHANNEL_CELLS * (channel) + (which))
 
+/* How many numbers a call of play for one tick wrote, from the state before it and after it, where its count is 1. */
+static inline size_t lampthistle_tick_numbers(const uint32_t before[LAMPTHISTLE_STATE_CELLS],
+                                              const uint32_t after[LAMPTHISTLE_STATE_CELLS]) {
+    const size_t tempo = after[LAMPTHISTLE_TEMPO];
+    const size_t remainder = before[LAMPTHISTLE_TEMPO] == tempo ? before[LAMPTHISTLE_REMAINDER] : 0;
+    return tempo == 0 ? 0 : 2 * ((120000 + remainder) / tempo);
+}
+
 /* The version of the library that is linked, as LAMPTHISTLE_VERSION. */
 uint32_t lampthistle_version(void);
 
 /* Whether the bytes are a module that can be played: refusals 1 to 9. */
 void lampthistle_judge(const uint8_t *file, size_t file_len, uint64_t answer[LAMPTHISTLE_ANSWER_CELLS]);
 
-/* Writes the state before the first tick of any song: position, row and clock 0, speed 6, tempo 125, voices stopped. */
+/* Writes the state before the first tick of any song: position, row, remainder and clock 0, speed 6, tempo 125, voices stopped. */
 void lampthistle_fresh(uint32_t state[LAMPTHISTLE_STATE_CELLS]);
 
 /* Plays the largest number of whole ticks, up to `ticks`, whose frames fit into `out`; counts them. The state goes on by as many ticks,
@@ -192,8 +203,8 @@ void lampthistle_fresh(uint32_t state[LAMPTHISTLE_STATE_CELLS]);
 void lampthistle_play(const uint8_t *file, size_t file_len, uint32_t state[LAMPTHISTLE_STATE_CELLS], uint32_t ticks,
                       int16_t *out, size_t out_len, uint64_t answer[LAMPTHISTLE_ANSWER_CELLS]);
 
-/* Takes a touch: the song goes to the beginning of `position`; voices, speed, tempo, clock and page stay. Refusals 1 to 9, 14, 16 to
-   18. */
+/* Takes a touch: the song goes to the beginning of `position`; voices, speed, tempo, remainder, clock and page stay. Refusals 1 to 9,
+   14, 16 to 18. */
 void lampthistle_touch(const uint8_t *file, size_t file_len, uint32_t state[LAMPTHISTLE_STATE_CELLS],
                        uint32_t page, uint32_t made, uint32_t position, uint64_t answer[LAMPTHISTLE_ANSWER_CELLS]);
 
@@ -201,14 +212,14 @@ void lampthistle_touch(const uint8_t *file, size_t file_len, uint32_t state[LAMP
 void lampthistle_change_page(const uint8_t *file, size_t file_len, uint32_t state[LAMPTHISTLE_STATE_CELLS],
                              uint64_t answer[LAMPTHISTLE_ANSWER_CELLS]);
 
-/* Writes the stream of the song's first `ticks` ticks, from the fresh state, into `room`; counts its bytes. Room past them stays. With
-   room_len 0 it is a question for the length needed (12). Refusals 1 to 9, 11, 12. */
+/* Writes the stream, of version 2, of the song's first `ticks` ticks, from the fresh state, into `room`; counts its bytes. Room past
+   them stays. With room_len 0 it is a question for the length needed (12). Refusals 1 to 9, 11, 12. */
 void lampthistle_translate(const uint8_t *file, size_t file_len, uint32_t ticks,
                            uint8_t *room, size_t room_len, uint64_t answer[LAMPTHISTLE_ANSWER_CELLS]);
 
-/* Plays the largest number of the stream's ticks whose frames fit into `out`, from its first tick and stopped voices, with the samples
-   of the module; counts them. The rest of `out` stays. Refusals 1 to 9, 21 to 23; every record is judged, also those that do not
-   fit. */
+/* Plays the largest number of the ticks of a stream of version 1 or 2 whose frames fit into `out`, from its first tick, stopped voices
+   and remainder 0, with the samples of the module; counts them. The rest of `out` stays. Refusals 1 to 9, 21 to 23; every record is
+   judged, also those that do not fit. */
 void lampthistle_play_stream(const uint8_t *stream, size_t stream_len, const uint8_t *file, size_t file_len,
                              int16_t *out, size_t out_len, uint64_t answer[LAMPTHISTLE_ANSWER_CELLS]);
 

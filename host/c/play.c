@@ -11,7 +11,44 @@ static void check_fresh(void) {
     lampthistle_fresh(state.cell);
     CHECK(state.cell[LAMPTHISTLE_SPEED] == 6);
     CHECK(state.cell[LAMPTHISTLE_TEMPO] == 125);
+    CHECK(state.cell[LAMPTHISTLE_REMAINDER] == 0);
     CHECK(state.cell[LAMPTHISTLE_CHANNEL_CELL(3, LAMPTHISTLE_VOICE_STOPPED)] == 1);
+}
+
+/* A tick a call at tempo 255: its numbers follow from the states around it, and 255 of them have 120,000 frames. */
+static void check_lengths(void) {
+    static int16_t out[LAMPTHISTLE_TICK_NUMBERS];
+    lampthistle_state at = state, before;
+    size_t numbers = 0, written;
+    int k, exact = 1;
+    at.cell[LAMPTHISTLE_TEMPO] = 255;
+    for (k = 0; k < 255; k++) {
+        before = at;
+        memset(out, 1, sizeof out);
+        lampthistle_play(file, sizeof file, at.cell, 1, out, LAMPTHISTLE_TICK_NUMBERS, answer);
+        written = lampthistle_tick_numbers(before.cell, at.cell);
+        exact &= out[written - 1] == 0 && out[written] == FILLED;
+        numbers += written;
+        if (k == 0) CHECK(written == 2 * 470 && at.cell[LAMPTHISTLE_REMAINDER] == 150);
+    }
+    CHECK_ANSWER(answer, LAMPTHISTLE_ACCEPTED, 0, 1);
+    CHECK(exact);
+    CHECK(numbers == 2 * 120000);
+    CHECK(at.cell[LAMPTHISTLE_REMAINDER] == 0);
+}
+
+/* A tempo of the tick's own row: the remainder before it does not count. */
+static void check_another_tempo(void) {
+    static int16_t out[LAMPTHISTLE_TICK_NUMBERS];
+    lampthistle_state at = state, before;
+    at.cell[LAMPTHISTLE_REMAINDER] = 124;
+    before = at;
+    memcpy(file + 1084, "\0\0\x0F\xFF", 4);
+    lampthistle_play(file, sizeof file, at.cell, 1, out, LAMPTHISTLE_TICK_NUMBERS, answer);
+    CHECK_ANSWER(answer, LAMPTHISTLE_ACCEPTED, 0, 1);
+    CHECK(at.cell[LAMPTHISTLE_REMAINDER] == 150);
+    CHECK(lampthistle_tick_numbers(before.cell, at.cell) == 2 * 470);
+    memset(file + 1084, 0, 4);
 }
 
 /* Two whole ticks fit; the rest of the buffer stays. */
@@ -46,6 +83,12 @@ static void check_refusals(void) {
     lampthistle_touch(file, sizeof file, state.cell, 1, 2, 1, answer);
     CHECK_ANSWER(answer, LAMPTHISTLE_REFUSED_POSITION, 0, 0);
     CHECK(memcmp(&state, &before, sizeof state) == 0);
+    state.cell[LAMPTHISTLE_REMAINDER] = state.cell[LAMPTHISTLE_TEMPO];
+    before = state;
+    lampthistle_play(file, sizeof file, state.cell, 0, NULL, 0, answer);
+    CHECK_ANSWER(answer, LAMPTHISTLE_REFUSED_STATE, 0, 0);
+    CHECK(memcmp(&state, &before, sizeof state) == 0);
+    state.cell[LAMPTHISTLE_REMAINDER] = 0;
     state.cell[LAMPTHISTLE_TEMPO] = 31;
     before = state;
     lampthistle_play(file, sizeof file, state.cell, 0, NULL, 0, answer);
@@ -58,6 +101,8 @@ static void check_refusals(void) {
 int main(void) {
     make_smallest(file);
     check_fresh();
+    check_lengths();
+    check_another_tempo();
     check_play();
     check_touch();
     check_refusals();

@@ -1,10 +1,10 @@
-/* The calls for tick streams, as a C and a C++ program use them: the two whole streams of the description. */
+/* The calls for tick streams, as a C and a C++ program use them: the two whole streams of the description, by versions 1 and 2. */
 #include "check.h"
 
-static const uint8_t EMPTY_ROW[] = {0, 0, 0, 7, 1, 0, 0, 0, 1, 0, 0x7D};
-static const uint8_t ONE_NOTE[] = {0, 0, 0, 0x0D, 1, 0, 0, 0, 1, 1, 0x7D, 1, 0x40, 1, 0xAC, 1, 0};
+static const uint8_t EMPTY_ROW[] = {0, 0, 0, 7, 2, 0, 0, 0, 1, 0, 0x7D};
+static const uint8_t ONE_NOTE[] = {0, 0, 0, 0x0D, 2, 0, 0, 0, 1, 1, 0x7D, 1, 0x40, 1, 0xAC, 1, 0};
 
-enum { TICK = 2 * 960, SAMPLE = 8, LOUD = 100, FILLED = 0x55 };
+enum { TICK = 2 * 960, SAMPLE = 8, LOUD = 100, FILLED = 0x55, VERSION = 4 };
 
 static uint8_t file[SMALLEST + SAMPLE];
 static uint64_t answer[LAMPTHISTLE_ANSWER_CELLS];
@@ -35,6 +35,7 @@ static void add_note(void) {
 
 static void check_board(void) {
     static int16_t board[TICK], player[TICK];
+    uint8_t first[sizeof ONE_NOTE];
     lampthistle_state state;
     lampthistle_fresh(state.cell);
     lampthistle_play(file, sizeof file, state.cell, 1, player, TICK, answer);
@@ -44,6 +45,32 @@ static void check_board(void) {
     CHECK(memcmp(board, player, sizeof board) == 0);
     CHECK(board[TICK - 2] == 2 * 64 * LOUD);
     CHECK(board[TICK - 1] == 0);
+    memcpy(first, ONE_NOTE, sizeof first);
+    first[VERSION] = 1;
+    memset(board, 0, sizeof board);
+    lampthistle_play_stream(first, sizeof first, file, sizeof file, board, TICK, answer);
+    CHECK_ANSWER(answer, LAMPTHISTLE_ACCEPTED, 0, 1);
+    CHECK(memcmp(board, player, sizeof board) == 0);
+}
+
+/* Three ticks at tempo 255 have 1,411 frames, by version 1 three times 470; there are no other versions. */
+static void check_versions(void) {
+    static int16_t out[2 * 1411];
+    uint8_t stream[] = {0, 0, 0, 11, 2, 0, 0, 0, 3, 0, 255, 0, 255, 0, 255};
+    static const uint8_t OTHERS[] = {0, 3, 255};
+    size_t k;
+    lampthistle_play_stream(stream, sizeof stream, file, sizeof file, out, 2 * 1411, answer);
+    CHECK_ANSWER(answer, LAMPTHISTLE_ACCEPTED, 0, 3);
+    lampthistle_play_stream(stream, sizeof stream, file, sizeof file, out, 2 * 1410, answer);
+    CHECK_ANSWER(answer, LAMPTHISTLE_ACCEPTED, 0, 2);
+    stream[VERSION] = 1;
+    lampthistle_play_stream(stream, sizeof stream, file, sizeof file, out, 2 * 1410, answer);
+    CHECK_ANSWER(answer, LAMPTHISTLE_ACCEPTED, 0, 3);
+    for (k = 0; k < sizeof OTHERS; k++) {
+        stream[VERSION] = OTHERS[k];
+        lampthistle_play_stream(stream, sizeof stream, file, sizeof file, NULL, 0, answer);
+        CHECK_ANSWER(answer, LAMPTHISTLE_REFUSED_STREAM_VERSION, VERSION, 0);
+    }
 }
 
 static void check_refusals(void) {
@@ -63,6 +90,7 @@ int main(void) {
     add_note();
     check_translate(sizeof file, ONE_NOTE, sizeof ONE_NOTE);
     check_board();
+    check_versions();
     check_refusals();
     return checked("stream");
 }

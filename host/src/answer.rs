@@ -109,7 +109,7 @@ fn meaning(number: u64) -> &'static str {
         refusal::STREAM_LENGTH => {
             "the stream is shorter than 9 bytes, or its length is not 4 plus its first number"
         }
-        refusal::STREAM_VERSION => "the stream's version is not 1",
+        refusal::STREAM_VERSION => "the stream's version is neither 1 nor 2",
         refusal::RECORD => "a record of the stream is bad, or bytes are left over",
         _ => "an unknown refusal",
     }

@@ -11,11 +11,13 @@ pub const LOOP_ROW: usize = 6;
 pub const LOOP_COUNT: usize = 7;
 pub const SPEED: usize = 8;
 pub const TEMPO: usize = 9;
+/// What the ticks at this tempo left over, below the tempo.
+pub const REMAINDER: usize = 10;
 /// Ticks played, modulo 2^32.
-pub const CLOCK: usize = 10;
-pub const PAGE: usize = 11;
+pub const CLOCK: usize = 11;
+pub const PAGE: usize = 12;
 /// The four channels' cells begin here.
-pub const FIRST_CHANNEL: usize = 12;
+pub const FIRST_CHANNEL: usize = 13;
 
 /// Where a channel's cells begin; channels from 0.
 pub const fn channel(channel: usize) -> usize {

@@ -8,10 +8,11 @@
 //!
 //! ```
 //! fn first_tick(file: &[u8]) -> Result<Vec<i16>, lampthistle::Refusal> {
-//!     let mut state = lampthistle::fresh();
+//!     let before = lampthistle::fresh();
+//!     let mut state = before;
 //!     let mut tick = vec![0; lampthistle::TICK_NUMBERS];
 //!     lampthistle::play(file, &mut state, 1, &mut tick).accepted()?;
-//!     tick.truncate(2 * state.last_tick_frames());
+//!     tick.truncate(lampthistle::tick_numbers(&before, &state));
 //!     Ok(tick)
 //! }
 //!
@@ -29,7 +30,8 @@ mod version;
 
 pub use answer::{Answer, Refusal};
 pub use play::{
-    change_page, fresh, play, tick_frames, touch, State, RATE, STATE_CELLS, TICK_NUMBERS,
+    change_page, fresh, play, tick_frames, tick_numbers, tick_rest, touch, State, RATE,
+    STATE_CELLS, TICK_NUMBERS,
 };
 pub use stream::{play_stream, translate, MOST_TICKS};
 pub use version::{same_cells, version, RELEASE, VERSION};

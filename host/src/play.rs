@@ -7,13 +7,23 @@ pub const RATE: u32 = 48_000;
 /// The most numbers that one tick takes: 3,750 frames at tempo 32.
 pub const TICK_NUMBERS: usize = 7_500;
 
-/// The frames of a tick at this tempo. 0 at tempo 0, which is not legal.
-pub fn tick_frames(tempo: u32) -> usize {
-    120_000u32.checked_div(tempo).unwrap_or(0) as usize
+/// A tick's frames times its tempo, without a remainder.
+const TICK_FRAMES: u64 = 120_000;
+
+/// The frames of a tick at this tempo that begins with this remainder. 0 at tempo 0, which is not legal.
+pub fn tick_frames(tempo: u32, remainder: u32) -> usize {
+    let whole = TICK_FRAMES + u64::from(remainder);
+    whole.checked_div(tempo.into()).unwrap_or(0) as usize
+}
+
+/// The remainder that such a tick leaves for the next one at its tempo.
+pub fn tick_rest(tempo: u32, remainder: u32) -> u32 {
+    let whole = TICK_FRAMES + u64::from(remainder);
+    whole.checked_rem(tempo.into()).unwrap_or(0) as u32
 }
 
 /// The cells of a state.
-pub const STATE_CELLS: usize = 56;
+pub const STATE_CELLS: usize = 57;
 
 /// Where a song is and how its voices sound, in plain numbers; `cell` names them.
 ///
@@ -39,6 +49,11 @@ impl State {
         self.0[cell::TEMPO]
     }
 
+    /// What the ticks at this tempo left over, for the next tick's length.
+    pub fn remainder(&self) -> u32 {
+        self.0[cell::REMAINDER]
+    }
+
     /// The ticks played so far, modulo 2^32.
     pub fn clock(&self) -> u32 {
         self.0[cell::CLOCK]
@@ -47,11 +62,14 @@ impl State {
     pub fn page(&self) -> u32 {
         self.0[cell::PAGE]
     }
+}
 
-    /// The frames of the tick played last: the tempo that a tick leaves in the state is the one that it had.
-    pub fn last_tick_frames(&self) -> usize {
-        tick_frames(self.tempo())
-    }
+/// How many numbers a call of `play` for one tick wrote, from the state before it and after it, where its count is 1: as
+/// lampthistle_tick_numbers of lampthistle.h.
+pub fn tick_numbers(before: &State, after: &State) -> usize {
+    let same = before.tempo() == after.tempo();
+    let remainder = if same { before.remainder() } else { 0 };
+    2 * tick_frames(after.tempo(), remainder)
 }
 
 /// The state before the first tick of any song.

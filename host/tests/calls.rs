@@ -1,6 +1,7 @@
 //! The safe wrappers, on modules small enough to know every answer.
 use lampthistle::{
-    change_page, fresh, judge, play, play_stream, tick_frames, touch, translate, Answer, Refusal,
+    cell, change_page, fresh, judge, play, play_stream, tick_frames, tick_numbers, tick_rest,
+    touch, translate, Answer, Refusal,
 };
 
 /// One empty pattern and no samples: 2,108 bytes.
@@ -46,7 +47,7 @@ fn the_smallest_module_plays() {
     let mut out = [9; 1_921];
     assert_eq!(play(&file, &mut state, 5, &mut out), accepted(1));
     assert_eq!((state.clock(), state.tick(), state.tempo()), (1, 1, 125));
-    assert_eq!(2 * state.last_tick_frames(), 1_920);
+    assert_eq!(tick_numbers(&fresh(), &state), 1_920);
     assert!(out[..1_920].iter().all(|&number| number == 0) && out[1_920] == 9);
 }
 
@@ -62,15 +63,15 @@ fn touches_and_pages_are_answered() {
     assert_eq!(touch(&file, &mut state, 1, 1, 0), refused(17, 0));
     assert_eq!(touch(&file, &mut state, 1, 0, 1), refused(18, 0));
     assert_eq!(state, before);
-    state.0[lampthistle::cell::ROW] = 64;
+    state.0[cell::ROW] = 64;
     assert_eq!(play(&file, &mut state, 0, &mut []), refused(14, 0));
 }
 
 #[test]
 fn the_two_whole_streams_are_given() {
-    let quiet = [0, 0, 0, 7, 1, 0, 0, 0, 1, 0, 0x7D];
+    let quiet = [0, 0, 0, 7, 2, 0, 0, 0, 1, 0, 0x7D];
     let note = [
-        0, 0, 0, 0x0D, 1, 0, 0, 0, 1, 1, 0x7D, 1, 0x40, 1, 0xAC, 1, 0,
+        0, 0, 0, 0x0D, 2, 0, 0, 0, 1, 1, 0x7D, 1, 0x40, 1, 0xAC, 1, 0,
     ];
     for (file, stream) in [(empty(), &quiet[..]), (one_note(), &note)] {
         let bytes = stream.len() as u64;
@@ -79,10 +80,15 @@ fn the_two_whole_streams_are_given() {
         assert_eq!(translate(&file, 1, &mut room), accepted(bytes));
         assert_eq!(&room[..stream.len()], stream);
         assert!(room[stream.len()..].iter().all(|&byte| byte == 7));
-        let (mut board, mut player) = ([9; 1_920], [8; 1_920]);
-        assert_eq!(play_stream(stream, &file, &mut board), accepted(1));
+        let mut player = [8; 1_920];
         assert_eq!(play(&file, &mut fresh(), 1, &mut player), accepted(1));
-        assert_eq!(board, player);
+        // The same ticks by version 1, and by 2, as it was translated.
+        for version in [1, 2] {
+            let (mut stream, mut board) = (stream.to_vec(), [9; 1_920]);
+            stream[4] = version;
+            assert_eq!(play_stream(&stream, &file, &mut board), accepted(1));
+            assert_eq!(board, player);
+        }
     }
     assert_eq!(translate(&empty(), 65_536, &mut []), refused(11, 0));
     assert_eq!(play_stream(&[], &empty(), &mut []), refused(21, 0));
@@ -112,5 +118,110 @@ fn a_refusal_is_an_error() {
 
 #[test]
 fn a_tick_has_its_frames() {
-    assert_eq!([125, 32, 255, 0].map(tick_frames), [960, 3_750, 470, 0]);
+    let begun = [(125, 0), (32, 31), (255, 0), (255, 105), (0, 0)];
+    let frames = begun.map(|(tempo, remainder)| tick_frames(tempo, remainder));
+    assert_eq!(frames, [960, 3_750, 470, 471, 0]);
+    let rests = begun.map(|(tempo, remainder)| tick_rest(tempo, remainder));
+    assert_eq!(rests, [0, 31, 150, 0, 0]);
+}
+
+/// A fresh state at this tempo and remainder.
+fn state_at(tempo: u32, remainder: u32) -> lampthistle::State {
+    let mut state = fresh();
+    (state.0[cell::TEMPO], state.0[cell::REMAINDER]) = (tempo, remainder);
+    state
+}
+
+#[test]
+fn ticks_at_one_tempo_do_not_drift() {
+    let mut state = state_at(255, 0);
+    let mut numbers = 0;
+    for ticks in 1..=510 {
+        let before = state;
+        let mut out = [9; 7_500];
+        assert_eq!(play(&empty(), &mut state, 1, &mut out), accepted(1));
+        let written = tick_numbers(&before, &state);
+        assert!(out[written - 1] == 0 && out[written] == 9);
+        numbers += written;
+        assert_eq!(numbers, 120_000 * ticks / 255 * 2);
+    }
+    assert_eq!((state.tempo(), state.remainder()), (255, 0));
+}
+
+#[test]
+fn another_tempo_begins_without_a_remainder() {
+    let mut file = empty();
+    file[1084..1088].copy_from_slice(&[0, 0, 0x0F, 254]);
+    let before = state_at(255, 254);
+    let mut state = before;
+    let mut out = [9; 946];
+    assert_eq!(play(&file, &mut state, 1, &mut out), accepted(1));
+    assert_eq!((state.tempo(), state.remainder()), (254, 112));
+    assert_eq!(tick_numbers(&before, &state), 944);
+    assert!(out[943] == 0 && out[944] == 9);
+}
+
+#[test]
+fn touches_and_pages_keep_the_remainder() {
+    let mut state = state_at(255, 254);
+    assert_eq!(touch(&empty(), &mut state, 0, 0, 0), accepted(0));
+    assert_eq!(change_page(&empty(), &mut state), accepted(0));
+    assert_eq!(state.remainder(), 254);
+    // 471 frames do not fit: nothing changes.
+    let before = state;
+    assert_eq!(play(&empty(), &mut state, 1, &mut [0; 941]), accepted(0));
+    assert_eq!(state, before);
+}
+
+#[test]
+fn a_remainder_is_below_its_tempo() {
+    for (tempo, remainder, answer) in [
+        (255, 254, accepted(0)),
+        (32, 31, accepted(0)),
+        (255, 255, refused(14, 0)),
+        (125, 125, refused(14, 0)),
+        (32, 33, refused(14, 0)),
+        (125, 254, refused(14, 0)),
+        (125, u32::MAX, refused(14, 0)),
+    ] {
+        let mut state = state_at(tempo, remainder);
+        let before = state;
+        assert_eq!(play(&empty(), &mut state, 0, &mut []), answer);
+        assert_eq!(state, before);
+    }
+}
+
+#[test]
+fn a_version_has_its_own_lengths() {
+    let mut stream = vec![0, 0, 0, 11, 2, 0, 0, 0, 3, 0, 255, 0, 255, 0, 255];
+    // 1,411 frames; by version 1 three times 470.
+    let count =
+        |stream: &[u8], frames: usize| play_stream(stream, &empty(), &mut vec![0; 2 * frames]);
+    assert_eq!(count(&stream, 1_411), accepted(3));
+    assert_eq!(count(&stream, 1_410), accepted(2));
+    stream[4] = 1;
+    assert_eq!(count(&stream, 1_410), accepted(3));
+    assert_eq!(count(&stream, 1_409), accepted(2));
+    for version in [0, 3, 255] {
+        stream[4] = version;
+        assert_eq!(count(&stream, 1_411), refused(22, 4));
+    }
+}
+
+#[test]
+fn a_cut_header_is_refused_by_its_length() {
+    for version in [1, 2] {
+        let whole = [0, 0, 0, 5, version, 0, 0, 0, 0];
+        assert_eq!(play_stream(&whole, &empty(), &mut []), accepted(0));
+        for length in 0..whole.len() {
+            let mut cut = whole[..length].to_vec();
+            let place = length as u64;
+            assert_eq!(play_stream(&cut, &empty(), &mut []), refused(21, place));
+            // Also where the first number says so.
+            if length >= 4 {
+                cut[3] = length as u8 - 4;
+                assert_eq!(play_stream(&cut, &empty(), &mut []), refused(21, place));
+            }
+        }
+    }
 }

@@ -15,7 +15,7 @@ use common::Answer;
 use player::Reply;
 
 // Major times 1,000,000, plus minor times 1,000, plus patch.
-const VERSION: u32 = 1000;
+const VERSION: u32 = 2000;
 
 // An answer's cells.
 const ANSWER_CELLS: usize = 3;

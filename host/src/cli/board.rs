@@ -1,12 +1,13 @@
 //! The sound board's play of an accepted stream, in pieces.
 //!
-//! The library's call begins at a stream's first tick with stopped voices, and cannot be resumed. But a voice follows from its channel's
-//! commands since its last start alone. So a piece is played as a stream of its own, which begins at the oldest of the channels' last
-//! starts; the frames of this run-up are left out. docs/DECISIONS.md says what this costs.
+//! The library's call begins at a stream's first tick with stopped voices and remainder 0, and cannot be resumed. But a voice follows from
+//! its channel's commands since its last start alone, and a tick's length from the ticks since the last that began with remainder 0. So a
+//! piece is played as a stream of its own, which begins at the last such tick before the oldest of the channels' last starts; the frames
+//! of this run-up are left out. docs/DECISIONS.md says what this costs.
 use super::input::Source;
-use super::records::{self, Records, CHANNELS};
+use super::records::{self, Lengths, Records, CHANNELS};
 use super::stop::Stop;
-use lampthistle::{refusal, tick_frames, Answer};
+use lampthistle::{refusal, Answer};
 
 /// Numbers of a piece, about 90 seconds of sound; more where the run-up is longer, so that not all time goes into run-ups.
 const PIECE_NUMBERS: usize = 1 << 23;
@@ -21,22 +22,29 @@ pub fn judge(stream: &Source, file: &Source) -> Result<Answer, Stop> {
     }
 }
 
-/// Where a channel's last start is: its tick, and the records from it on.
-type Start<'a> = (u64, Records<'a>);
+/// A tick, and the records from it on.
+type Place<'a> = (u64, Records<'a>);
+
+/// The tick of a channel's last start, and where a run-up to it begins.
+type Start<'a> = (u64, Place<'a>);
 
 /// An accepted stream that is being played.
 pub struct Board<'a> {
     file: &'a [u8],
+    version: u8,
     /// The numbers of a piece at least, but for the last.
     piece: usize,
-    /// The next tick, and the records from it on.
+    /// The next tick, the records from it on, and the lengths up to it.
     tick: u64,
     ahead: Records<'a>,
+    lengths: Lengths,
+    /// The last tick that began with remainder 0.
+    even: Place<'a>,
     started: [Option<Start<'a>>; CHANNELS],
     numbers: Vec<i16>,
     /// The numbers of the piece's ticks that are still to be given, from this one on.
     at: usize,
-    lengths: std::vec::IntoIter<usize>,
+    parts: std::vec::IntoIter<usize>,
 }
 
 impl<'a> Board<'a> {
@@ -45,36 +53,40 @@ impl<'a> Board<'a> {
     }
 
     fn in_pieces(piece: usize, stream: &'a [u8], file: &'a [u8]) -> Board<'a> {
+        let (version, all) = (records::version(stream), records::records(stream));
         Board {
             file,
+            version,
             piece,
             tick: 0,
-            ahead: records::records(stream),
+            ahead: all.clone(),
+            lengths: Lengths::of(version),
+            even: (0, all),
             started: [const { None }; CHANNELS],
             numbers: Vec::new(),
             at: 0,
-            lengths: Vec::new().into_iter(),
+            parts: Vec::new().into_iter(),
         }
     }
 
     /// The next tick's numbers; none after the last.
     pub fn next(&mut self) -> Result<Option<&[i16]>, Stop> {
-        if self.lengths.len() == 0 {
+        if self.parts.len() == 0 {
             self.play_piece()?;
         }
-        let Some(length) = self.lengths.next() else {
+        let Some(part) = self.parts.next() else {
             return Ok(None);
         };
         let from = self.at;
-        self.at += length;
+        self.at += part;
         Ok(Some(&self.numbers[from..self.at]))
     }
 
     fn play_piece(&mut self) -> Result<(), Stop> {
-        let mut piece = records::Writer::new();
+        let mut piece = records::Writer::new(self.version);
         let run_up = self.write_run_up(&mut piece);
-        let lengths = self.write_ticks(&mut piece, run_up.max(self.piece));
-        let all = run_up + lengths.iter().sum::<usize>();
+        let parts = self.write_ticks(&mut piece, run_up.max(self.piece));
+        let all = run_up + parts.iter().sum::<usize>();
         reserve(&mut self.numbers, all)?;
         let (stream, ticks) = piece.finish();
         let answer = lampthistle::play_stream(&stream, self.file, &mut self.numbers);
@@ -86,23 +98,22 @@ impl<'a> Board<'a> {
             )));
         }
         self.at = run_up;
-        self.lengths = lengths.into_iter();
+        self.parts = parts.into_iter();
         Ok(())
     }
 
     /// Writes the ticks that lead to the next one, with each channel's commands from its last start on; gives their numbers.
     fn write_run_up(&self, piece: &mut records::Writer) -> usize {
-        let starts = || self.started.iter().flatten();
-        let Some((first, from)) = starts().min_by_key(|(tick, _)| *tick) else {
-            return 0;
-        };
-        let mut numbers = 0;
+        let places = self.started.iter().flatten().map(|(_, from)| from);
+        let oldest = places.min_by_key(|(tick, _)| *tick);
+        let (first, from) = oldest.unwrap_or(&self.even);
+        let (mut lengths, mut numbers) = (Lengths::of(self.version), 0);
         for (tick, mut record) in (*first..self.tick).zip(from.clone()) {
             for (command, start) in record.commands.iter_mut().zip(&self.started) {
                 let begun = start.as_ref().is_some_and(|(begin, _)| *begin <= tick);
                 *command = command.filter(|_| begun);
             }
-            numbers += 2 * tick_frames(record.tempo);
+            numbers += 2 * lengths.next(record.tempo);
             piece.write(&record);
         }
         numbers
@@ -110,23 +121,27 @@ impl<'a> Board<'a> {
 
     /// Writes the next ticks until they have so many numbers; gives the numbers of each.
     fn write_ticks(&mut self, piece: &mut records::Writer, most: usize) -> Vec<usize> {
-        let (mut lengths, mut numbers) = (Vec::new(), 0);
+        let (mut parts, mut numbers) = (Vec::new(), 0);
         while numbers < most {
             let from = self.ahead.clone();
             let Some(record) = self.ahead.next() else {
                 break;
             };
+            if self.lengths.carried(record.tempo) == 0 {
+                self.even = (self.tick, from);
+            }
             for (command, start) in record.commands.iter().zip(&mut self.started) {
                 if command.is_some_and(|command| command.start) {
-                    *start = Some((self.tick, from.clone()));
+                    *start = Some((self.tick, self.even.clone()));
                 }
             }
             piece.write(&record);
             self.tick += 1;
-            lengths.push(2 * tick_frames(record.tempo));
-            numbers += 2 * tick_frames(record.tempo);
+            let part = 2 * self.lengths.next(record.tempo);
+            parts.push(part);
+            numbers += part;
         }
-        lengths
+        parts
     }
 }
 
@@ -160,18 +175,28 @@ mod tests {
     #[test]
     fn pieces_of_any_size_are_the_whole() {
         for name in ["effects", "flow", "edges"] {
-            let (file, stream) = stored(name, 400);
-            let mut whole = vec![0; 2 * records::frames(&stream) as usize];
-            let answer = lampthistle::play_stream(&stream, &file, &mut whole);
-            assert_eq!(answer.count, 400);
-            for piece in [1, 941, 5_000, 100_000] {
-                let mut board = Board::in_pieces(piece, &stream, &file);
-                let mut joined = Vec::new();
-                while let Ok(Some(numbers)) = board.next() {
-                    joined.extend_from_slice(numbers);
-                }
-                assert!(joined == whole, "{name} in pieces of {piece}");
+            let (file, mut stream) = stored(name, 400);
+            for version in [1, 2] {
+                stream[4] = version;
+                whole_in_pieces(&file, &stream);
             }
+        }
+    }
+
+    fn whole_in_pieces(file: &[u8], stream: &[u8]) {
+        let numbers = 2 * records::frames(stream) as usize;
+        let mut whole = vec![0; numbers];
+        let answer = lampthistle::play_stream(stream, file, &mut whole);
+        assert_eq!(answer.count, 400);
+        let answer = lampthistle::play_stream(stream, file, &mut vec![0; numbers - 1]);
+        assert_eq!(answer.count, 399);
+        for piece in [1, 941, 5_000, 100_000] {
+            let mut board = Board::in_pieces(piece, stream, file);
+            let mut joined = Vec::new();
+            while let Ok(Some(numbers)) = board.next() {
+                joined.extend_from_slice(numbers);
+            }
+            assert!(joined == whole, "version {} by {piece}", stream[4]);
         }
     }
 }

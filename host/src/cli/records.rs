@@ -1,4 +1,5 @@
 //! The records of a tick stream that the library wrote or accepted, read and written by offset.
+use lampthistle::{tick_frames, tick_rest};
 
 pub const CHANNELS: usize = 4;
 /// Where the count of ticks is, and the bytes before the first record and of one channel's command.
@@ -7,7 +8,9 @@ const START: usize = 9;
 const COMMAND_BYTES: usize = 6;
 /// Bytes that the stream's first number does not count, and the version.
 const UNCOUNTED: usize = 4;
-const VERSION: u8 = 1;
+const VERSION: usize = 4;
+/// The version whose ticks leave no remainder.
+const DRIFTING: u8 = 1;
 
 /// One tick: its tempo, and for each channel whose bit is set its command.
 pub struct Record {
@@ -53,11 +56,58 @@ pub fn ticks(stream: &[u8]) -> u64 {
         .fold(0, |high, &low| 256 * high + u64::from(low))
 }
 
+/// An accepted stream's version.
+pub fn version(stream: &[u8]) -> u8 {
+    stream.get(VERSION).copied().unwrap_or(0)
+}
+
 /// The frames of all ticks of a stream.
 pub fn frames(stream: &[u8]) -> u64 {
+    let mut lengths = Lengths::of(version(stream));
     records(stream)
-        .map(|record| lampthistle::tick_frames(record.tempo) as u64)
+        .map(|record| lengths.next(record.tempo) as u64)
         .sum()
+}
+
+/// How long the ticks of a stream are, one after the other: by version 1 each by its tempo alone, by version 2 with the remainder of
+/// those before it.
+#[derive(Clone, Copy)]
+pub struct Lengths {
+    version: u8,
+    tempo: u32,
+    /// What the last tick left.
+    pub remainder: u32,
+}
+
+impl Lengths {
+    /// Before the first tick of a stream of this version.
+    pub fn of(version: u8) -> Lengths {
+        Lengths {
+            version,
+            tempo: 0,
+            remainder: 0,
+        }
+    }
+
+    /// The remainder with which a next tick at this tempo begins.
+    pub fn carried(&self, tempo: u32) -> u32 {
+        if self.tempo == tempo {
+            self.remainder
+        } else {
+            0
+        }
+    }
+
+    /// The frames of the next tick, at this tempo.
+    pub fn next(&mut self, tempo: u32) -> usize {
+        let carried = self.carried(tempo);
+        self.tempo = tempo;
+        self.remainder = match self.version {
+            DRIFTING => 0,
+            _ => tick_rest(tempo, carried),
+        };
+        tick_frames(tempo, carried)
+    }
 }
 
 impl Records<'_> {
@@ -100,11 +150,11 @@ pub struct Writer {
 }
 
 impl Writer {
-    pub fn new() -> Writer {
-        Writer {
-            bytes: vec![0; START],
-            ticks: 0,
-        }
+    /// A stream of this version without a tick.
+    pub fn new(version: u8) -> Writer {
+        let mut bytes = vec![0; START];
+        bytes[VERSION] = version;
+        Writer { bytes, ticks: 0 }
     }
 
     pub fn write(&mut self, record: &Record) {
@@ -126,7 +176,6 @@ impl Writer {
     pub fn finish(mut self) -> (Vec<u8>, u64) {
         let follow = (self.bytes.len() - UNCOUNTED) as u32;
         self.bytes[..UNCOUNTED].copy_from_slice(&follow.to_be_bytes());
-        self.bytes[UNCOUNTED] = VERSION;
         self.bytes[TICKS].copy_from_slice(&self.ticks.to_be_bytes());
         (self.bytes, self.ticks.into())
     }

@@ -1,6 +1,6 @@
 //! A module that is played one tick a call.
 use super::layout;
-use lampthistle::{Answer, State, TICK_NUMBERS};
+use lampthistle::{tick_numbers, Answer, State, TICK_NUMBERS};
 use std::borrow::Cow;
 
 pub struct Song<'a> {
@@ -30,12 +30,13 @@ impl<'a> Song<'a> {
 
     /// The next tick's numbers, if they are at most `most`; else none. Or the refusal.
     pub fn next(&mut self, most: usize) -> Result<Option<&[i16]>, Answer> {
+        let before = self.state;
         let room = &mut self.numbers[..most.min(TICK_NUMBERS)];
         let answer = lampthistle::play(&self.file, &mut self.state, 1, room);
         if !answer.is_accepted() {
             return Err(answer);
         }
-        let played = 2 * self.state.last_tick_frames();
+        let played = tick_numbers(&before, &self.state);
         Ok((answer.count == 1).then(|| &self.numbers[..played.min(TICK_NUMBERS)]))
     }
 

@@ -18,8 +18,8 @@ pub const TRANSLATE: Command = Command {
     help: "\
 lampthistle translate FILE (--once | --ticks N) --out OUT [--plain]
 
-Writes the tick stream of the module's first N ticks, 65,535 at most, to OUT; - is standard output. --once takes the ticks until the
-song comes back to a place where it has been, as info tells.
+Writes the tick stream, of version 2, of the module's first N ticks, 65,535 at most, to OUT; - is standard output. --once takes the
+ticks until the song comes back to a place where it has been, as info tells.
 --plain prints NUMBER PLACE COUNT, the count in bytes.
 
 Example:
@@ -37,7 +37,7 @@ pub const BOARD: Command = Command {
     help: "\
 lampthistle board STREAM FILE --out OUT [--plain]
 
-Plays a tick stream as the sound board does, with the samples of the module FILE. OUT as in play: .wav, .raw or -.
+Plays a tick stream of version 1 or 2 as the sound board does, with the samples of the module FILE. OUT as in play: .wav, .raw or -.
 --plain prints NUMBER PLACE COUNT, the count in ticks.
 
 Example:

@@ -4,7 +4,7 @@ use super::json::{self, Fields, Value};
 use super::layout;
 use super::length::ticks_asked;
 use super::output::say;
-use super::records::{records, Command as Registers, Record, CHANNELS};
+use super::records::{records, version, Command as Registers, Lengths, Record, CHANNELS};
 use super::report::plain_accepted;
 use super::song::Song;
 use super::stop::Stop;
@@ -21,16 +21,17 @@ pub const COMMAND: Command = Command {
 lampthistle trace FILE [--once | --ticks N] [--plain | --json]
 
 Shows the first N ticks of a module or of a tick stream, 100 without --ticks, a line a tick: its number, the module's position and row,
-the tempo, and each channel's sample, volume and sounded period. A * stands before a channel that changes or starts; @ and the byte
-offset after one that starts. --once shows a module's ticks until it comes back to a place where it has been, as info tells.
---plain prints NUMBER PLACE COUNT, the count in bytes of the stream, then a line a tick: tick, position, row and tempo, and for each
-channel six numbers: 1 if it is in the record, sample, volume, period, start, offset / 256. A stream has - - for position and row.
---json prints an object a tick.
+the tempo, the remainder that the tick leaves, its frames, and each channel's sample, volume and sounded period. A * stands before a
+channel that changes or starts; @ and the byte offset after one that starts. --once shows a module's ticks until it comes back to a
+place where it has been, as info tells.
+--plain prints NUMBER PLACE COUNT, the count in bytes of the stream, then a line a tick: tick, position, row, tempo, remainder and
+frames, and for each channel six numbers: 1 if it is in the record, sample, volume, period, start, offset / 256. A stream has - - for
+position and row. --json prints an object a tick.
 
 Example:
   lampthistle trace song.mod --ticks 4
-   tick  pos row tempo   channel 1           channel 2           channel 3           channel 4
-      0    0   0   125  * 1 64 428 @0         0  0   0            0  0   0            0  0   0
+   tick  pos row tempo rem frames   channel 1           channel 2           channel 3           channel 4
+      0    0   0   125   0    960  * 1 64 428 @0         0  0   0            0  0   0            0  0   0
 
 Exit status: 0 accepted; 1 refused; 2 wrong use, or a file that cannot be read.
 ",
@@ -46,6 +47,9 @@ struct Tick<'a> {
     number: usize,
     /// Position and row of a module.
     place: Option<(u32, u32)>,
+    /// What it leaves for the next, and how long it is.
+    remainder: u32,
+    frames: usize,
     record: &'a Record,
     registers: &'a [Registers; CHANNELS],
 }
@@ -64,18 +68,22 @@ fn run(words: &Words) -> Result<bool, Stop> {
         (translated(&source, ticks)?, Some(song), ticks)
     };
     let mut text = heading(words, stream.len() as u64);
+    let mut lengths = Lengths::of(version(&stream));
     let mut registers = [Registers::default(); CHANNELS];
     for (number, record) in records(&stream).take(ticks as usize).enumerate() {
         for (register, command) in registers.iter_mut().zip(&record.commands) {
             *register = command.unwrap_or(*register);
         }
         let place = song.as_mut().map(|song| step(song, &source)).transpose()?;
+        let frames = lengths.next(record.tempo);
         text += &line(
             words,
             &source,
             &Tick {
                 number,
                 place,
+                remainder: lengths.remainder,
+                frames,
                 record: &record,
                 registers: &registers,
             },
@@ -117,15 +125,16 @@ fn line(words: &Words, source: &Source, tick: &Tick) -> String {
         return json::object(fields(source, tick));
     }
     let (number, tempo) = (tick.number, tick.record.tempo);
+    let (remainder, frames) = (tick.remainder, tick.frames);
     let show = if words.plain { bare } else { marked };
     let [position, row] = match tick.place {
         Some((position, row)) => [position.to_string(), row.to_string()],
         None => ["-".into(), "-".into()],
     };
     let mut line = if words.plain {
-        format!("{number} {position} {row} {tempo}")
+        format!("{number} {position} {row} {tempo} {remainder} {frames}")
     } else {
-        format!("{number:>5} {position:>4} {row:>3} {tempo:>5}")
+        format!("{number:>5} {position:>4} {row:>3} {tempo:>5} {remainder:>3} {frames:>6}")
     };
     for channel in 0..CHANNELS {
         line += &show(tick, channel);
@@ -140,7 +149,7 @@ fn heading(words: &Words, bytes: u64) -> String {
     if words.plain {
         return plain_accepted(bytes);
     }
-    let mut text = String::from(" tick  pos row tempo");
+    let mut text = String::from(" tick  pos row tempo rem frames");
     for channel in 1..=CHANNELS {
         text += &format!("   channel {channel:<9}");
     }
@@ -198,6 +207,8 @@ fn fields(source: &Source, tick: &Tick) -> Fields {
         ("position", tick.place.map(|(position, _)| position).into()),
         ("row", tick.place.map(|(_, row)| row).into()),
         ("tempo", tick.record.tempo.into()),
+        ("remainder", tick.remainder.into()),
+        ("frames", tick.frames.into()),
         ("channels", Value::list(channels)),
     ]
 }

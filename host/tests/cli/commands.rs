@@ -1,5 +1,5 @@
 //! What each command prints and writes.
-use crate::common::{own, run, stored, told};
+use crate::common::{frames, own, run, stored, told};
 use lampthistle::{fresh, play};
 
 #[test]
@@ -24,7 +24,7 @@ fn judge_answers_a_line_a_file() {
 fn info_shows_what_a_module_holds() {
     let (status, out, _) = told(&["info", "--plain", &stored("edges")]);
     let lines =
-        "0 0 0\n1 1\n0\n192 90240 0 0\n1 12 64 4 6\n2 40 64 0 0\n3 4 64 0 4\n31 512 1 200 56\n";
+        "0 0 0\n1 1\n0\n192 90352 0 0\n1 12 64 4 6\n2 40 64 0 0\n3 4 64 0 4\n31 512 1 200 56\n";
     assert_eq!((status, out.as_str()), (0, lines));
     let (status, out, _) = told(&["info", &stored("flow")]);
     assert_eq!(status, 0);
@@ -42,7 +42,7 @@ fn play_writes_the_frames_of_the_library() {
         assert_eq!(told(&words), (0, "0 0 30\n".into(), String::new()));
     }
     let file = std::fs::read(&module).unwrap();
-    let mut numbers = vec![0; 30 * 2 * 470];
+    let mut numbers = vec![0; 2 * frames(30)];
     assert_eq!(play(&file, &mut fresh(), 30, &mut numbers).count, 30);
     let bytes: Vec<u8> = numbers.iter().flat_map(|n| n.to_le_bytes()).collect();
     assert!(std::fs::read(raw).unwrap() == bytes);
@@ -57,11 +57,11 @@ fn play_writes_the_frames_of_the_library() {
 fn play_by_seconds_takes_whole_ticks() {
     let words = ["play", &stored("effects"), "--seconds", "0.1", "--out", "-"];
     let output = run(&words);
-    // 4,800 frames take ten ticks of 470.
-    assert_eq!(output.stdout.len(), 10 * 470 * 4);
+    // Of 4,800 frames ten ticks take 4,705, and eleven would take 5,176.
+    assert_eq!(output.stdout.len(), 4_705 * 4);
     let told = String::from_utf8(output.stderr).unwrap();
     assert!(
-        told.ends_with("played 10 ticks, 4700 frames, 0.098 seconds\n"),
+        told.ends_with("played 10 ticks, 4705 frames, 0.098 seconds\n"),
         "{told}"
     );
 }
@@ -110,7 +110,7 @@ fn options_have_other_forms() {
         assert_eq!(told(&words).0, 0, "{out:?}");
         assert_eq!(
             std::fs::read(own("form.raw")).unwrap().len(),
-            ticks * 470 * 4
+            frames(ticks) * 4
         );
     }
     assert_eq!(told(&["-V"]), told(&["--version"]));

@@ -74,6 +74,11 @@ pub fn quiet(name: &str, cells: &[u8]) -> String {
     path.to_str().expect("a plain path").into()
 }
 
+/// The frames of the first ticks of the stored modules, which are at tempo 255.
+pub fn frames(ticks: usize) -> usize {
+    120_000 * ticks / 255
+}
+
 /// A file's name in the tests' own folder.
 pub fn own(name: &str) -> PathBuf {
     Path::new(env!("CARGO_TARGET_TMPDIR")).join(name)

@@ -1,11 +1,11 @@
 //! The player against a given stream and against recordings.
-use crate::common::{own, stored, told};
+use crate::common::{frames, own, stored, told};
 
 fn path(name: &str) -> String {
     own(name).to_str().unwrap().into()
 }
 
-/// The first 20 ticks of a stored module, of 470 frames each, as a file of this name.
+/// The first 20 ticks of a stored module, 9,411 frames, as a file of this name.
 fn played(name: &str) -> String {
     let out = path(name);
     let words = ["play", &stored("effects"), "--ticks", "20", "--out", &out];
@@ -27,25 +27,36 @@ fn a_stream_is_compared() {
     let words = ["translate", module, "--ticks", "20", "--out", stream];
     assert_eq!(told(&words).0, 0);
     let (status, out, _) = told(&["compare", module, stream]);
-    let line = format!("{module}: 20 ticks, 9400 frames: player and {stream} are equal\n");
+    let line = format!("{module}: 20 ticks, 9411 frames: player and {stream} are equal\n");
     assert_eq!((status, out), (0, line));
     // The first command's volume.
     change(stream, |bytes| bytes[12] -= 1);
     let (status, out, err) = told(&["compare", module, stream]);
     assert_eq!((status, out.as_str()), (1, ""));
     assert!(err.contains(": DIFFERENT: tick 0, frame "), "{err}");
-    // The second tick's tempo: 472 frames in place of 470.
+    // The second tick's tempo: 472 frames in place of 471.
     change(stream, |bytes| {
         bytes[12] += 1;
         bytes[24] = 254;
     });
     let (_, _, err) = told(&["compare", module, stream]);
-    let line = "tick 1, frame 470 (940 from the beginning), left: player none, ";
+    let line = "tick 1, frame 471 (941 from the beginning), left: player none, ";
     assert!(err.contains(line), "{err}");
     assert_eq!(told(&["compare", module, stream, "--ticks", "1"]).0, 0);
-    change(stream, |bytes| bytes[4] = 2);
+    change(stream, |bytes| bytes[4] = 3);
     let (status, out, _) = told(&["compare", module, stream, "--plain"]);
     assert_eq!((status, out.as_str()), (1, "22 4 0\n"));
+    // By version 1 the second tick is as long as the first.
+    change(stream, |bytes| {
+        bytes[4] = 1;
+        bytes[24] = 255;
+    });
+    let (_, _, err) = told(&["compare", module, stream]);
+    assert!(
+        err.contains("tick 1, frame 470 (940 from the beginning), left: player "),
+        "{err}"
+    );
+    assert!(err.ends_with(" none\n"), "{err}");
 }
 
 #[test]
@@ -55,13 +66,13 @@ fn a_recording_is_compared() {
         let sound = &played(name);
         let start = if name.ends_with("wav") { 44 } else { 0 };
         let (status, out, _) = told(&["compare", module, sound]);
-        let line = format!("{module}: 20 ticks, 9400 frames: player and {sound} are equal\n");
+        let line = format!("{module}: 20 ticks, 9411 frames: player and {sound} are equal\n");
         assert_eq!((status, out), (0, line));
         // The right number of frame 3 of tick 2.
-        change(sound, |bytes| bytes[start + 4 * (2 * 470 + 3) + 2] ^= 1);
+        change(sound, |bytes| bytes[start + 4 * (frames(2) + 3) + 2] ^= 1);
         let (status, _, err) = told(&["compare", module, sound]);
         assert_eq!(status, 1);
-        let line = "DIFFERENT: tick 2, frame 3 (943 from the beginning), right: player ";
+        let line = "DIFFERENT: tick 2, frame 3 (944 from the beginning), right: player ";
         assert!(err.contains(line), "{err}");
         assert_eq!(told(&["compare", module, sound, "--ticks", "2"]).0, 0);
     }
@@ -92,7 +103,7 @@ fn recordings_that_are_none_are_told() {
     stops(raw, "no frame to compare");
     let wav = &played("none.wav");
     change(wav, |bytes| bytes.truncate(44 + 4 * 1000));
-    stops(wav, "is cut: 33600 bytes of its sound are not there");
+    stops(wav, "is cut: 33644 bytes of its sound are not there");
     change(wav, |bytes| bytes[24] = 0x44);
     stops(wav, "is not 48000 frames a second");
     change(wav, |bytes| bytes[0] = b'r');

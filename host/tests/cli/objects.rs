@@ -49,8 +49,9 @@ fn trace_prints_an_object_a_tick() {
     let (status, lines) = lines(&["trace", &stored("effects"), "--ticks", "2"]);
     assert_eq!((status, lines.len()), (0, 2));
     let name = stored("effects");
-    let start =
-        format!(r#"{{"file":"{name}","tick":0,"position":0,"row":0,"tempo":255,"channels":["#);
+    let start = format!(
+        r#"{{"file":"{name}","tick":0,"position":0,"row":0,"tempo":255,"remainder":150,"frames":470,"channels":["#
+    );
     let channel = r#"{"changed":true,"sample":1,"volume":64,"period":428,"starts_at":0},"#;
     assert!(lines[0].starts_with(&(start + channel)), "{}", lines[0]);
     let end = r#"{"changed":false,"sample":0,"volume":0,"period":0,"starts_at":null}]}"#;
@@ -88,7 +89,7 @@ fn compare_prints_one_object() {
     let name = stored("effects");
     let (status, lines) = lines(&["compare", &name, "--ticks", "20"]);
     let line = format!(
-        r#"{{"file":"{name}","number":0,"place":0,"meaning":"accepted","with":"board","equal":true,"ticks":20,"frames":9400}}"#
+        r#"{{"file":"{name}","number":0,"place":0,"meaning":"accepted","with":"board","equal":true,"ticks":20,"frames":9411}}"#
     );
     assert_eq!((status, lines), (0, vec![line]));
     let sound = own("object.raw");

@@ -24,8 +24,8 @@ fn a_song_is_as_long_as_it_takes_to_come_back() {
         (&[][..], "384 368640 0 0"),
         // Speed 3; a row twice more; four times as long; and back to the second row.
         (&[0xF03, 0xE60, 0xE62, 0xEE3, 0xD01], "36 34560 0 1"),
-        // A tempo for the next pass is another sound, and no other place.
-        (&[0, 0xFFF, 0xB00], "18 11400 0 0"),
+        // A tempo for the next pass is another sound, and no other place: 5,760 frames and (120,000 × 12) div 255.
+        (&[0, 0xFFF, 0xB00], "18 11407 0 0"),
     ] {
         assert_eq!(
             lasting(&quiet("lasting.mod", &effects(rows))),

@@ -1,5 +1,5 @@
 //! Sound files: pipes, files that are cut or do not fit, and lengths in seconds.
-use crate::common::{command, folder, in_time, quiet, run, said, stored, told};
+use crate::common::{command, folder, frames, in_time, quiet, run, said, stored, told};
 use std::path::Path;
 use std::process::{Command, Stdio};
 use std::thread::{sleep, spawn};
@@ -36,7 +36,7 @@ fn a_pipe_is_written_as_it_is() {
     let module = &stored("effects");
     let words = ["play", module, "--ticks", "30", "--out"];
     let raw = through_a_pipe(&words, &folder, "p.raw");
-    assert_eq!(raw.len(), 30 * 470 * 4);
+    assert_eq!(raw.len(), frames(30) * 4);
     let wav = through_a_pipe(&words, &folder, "p.wav");
     assert!(wav[WAV_START..] == raw);
     // Nobody can go back in a pipe: the lengths stay open.
@@ -57,7 +57,7 @@ fn a_device_is_written_as_it_is() {
         .stdin(Stdio::null());
     let output = in_time(&mut script);
     assert_eq!(output.status.code(), Some(0));
-    let stream = [0, 0, 0, 7, 1, 0, 0, 0, 1, 0, 0x7D];
+    let stream = [0, 0, 0, 7, 2, 0, 0, 0, 1, 0, 0x7D];
     let mut parts = output.stdout.windows(stream.len());
     assert!(parts.any(|part| part == stream), "{:?}", output.stdout);
 }

@@ -36,13 +36,13 @@ fn bad_streams_are_refused_and_nothing_is_written() {
     let module = stored("flow");
     let stream = translated(&module, "3", "bad.stream");
     let mut bytes = std::fs::read(&stream).unwrap();
-    bytes[4] = 2;
+    bytes[4] = 3;
     std::fs::write(&stream, bytes).unwrap();
     let out = own("bad_board.wav");
     let words = ["board", &stream, &module, "--out", out.to_str().unwrap()];
     let (status, text, _) = told(&words);
     assert_eq!(status, 1);
-    assert!(text.ends_with(": refused 22 at 4: the stream's version is not 1\n"));
+    assert!(text.ends_with(": refused 22 at 4: the stream's version is neither 1 nor 2\n"));
     assert!(!out.exists());
 }
 
@@ -99,7 +99,7 @@ fn the_board_plays_any_length() {
 
 #[test]
 fn player_and_board_are_compared_in_pieces() {
-    // 470 frames a tick: 75 MB of sound, and a piece has 8,925 ticks.
+    // 120,000 frames in 255 ticks: 75 MB of sound, and a piece has 8,913 ticks.
     let answer = (0, "0 0 40000\n".into(), String::new());
     for name in ["effects", "edges"] {
         let words = ["compare", &stored(name), "--ticks", "40000", "--plain"];
@@ -120,16 +120,18 @@ fn player_and_board_are_compared_in_pieces() {
 fn trace_marks_what_changes() {
     let (status, out, _) = told(&["trace", "--plain", "--ticks", "2", &stored("effects")]);
     let lines = "0 0 31\n\
-        0 0 0 255 1 1 64 428 1 0 1 2 32 285 1 0 0 0 0 0 0 0 0 0 0 0 0 0\n\
-        1 0 0 255 1 1 64 339 0 0 0 2 32 285 0 0 0 0 0 0 0 0 0 0 0 0 0 0\n";
+        0 0 0 255 150 470 1 1 64 428 1 0 1 2 32 285 1 0 0 0 0 0 0 0 0 0 0 0 0 0\n\
+        1 0 0 255 45 471 1 1 64 339 0 0 0 2 32 285 0 0 0 0 0 0 0 0 0 0 0 0 0 0\n";
     assert_eq!((status, out.as_str()), (0, lines));
     let (_, out, _) = told(&["trace", "--ticks", "4", &stored("effects")]);
     assert!(
-        out.contains("    0    0   0   255  * 1 64 428 @0       * 2 32 285 @0         0  0   0"),
+        out.contains(
+            "    0    0   0   255 150    470  * 1 64 428 @0       * 2 32 285 @0         0  0   0"
+        ),
         "{out}"
     );
     assert!(
-        out.contains("    1    0   0   255  * 1 64 339            2 32 285  "),
+        out.contains("    1    0   0   255  45    471  * 1 64 339            2 32 285  "),
         "{out}"
     );
     assert!(out.contains("    3    0   1   255 "), "{out}");
@@ -143,7 +145,7 @@ fn trace_shows_a_stream() {
     let (own, other) = (lines(&module), lines(&stream));
     let bytes = std::fs::read(&stream).unwrap().len();
     assert!(
-        other.starts_with(&format!("0 0 {bytes}\n0 - - 255 1 1 64 428")),
+        other.starts_with(&format!("0 0 {bytes}\n0 - - 255 150 470 1 1 64 428")),
         "{other}"
     );
     // The same registers, without a place.
@@ -154,10 +156,20 @@ fn trace_shows_a_stream() {
             .collect()
     };
     assert_eq!(registers(&own), registers(&other));
+    // By version 1 no tick leaves a remainder.
     let mut bytes = std::fs::read(&stream).unwrap();
-    bytes[4] = 2;
+    bytes[4] = 1;
     std::fs::write(&stream, &bytes).unwrap();
-    assert_eq!(told(&["trace", "--plain", &stream]).1, "22 4 0\n");
+    let old = lines(&stream);
+    assert!(
+        old.contains("\n0 - - 255 0 470 ") && old.contains("\n1 - - 255 0 470 "),
+        "{old}"
+    );
+    for version in [0, 3, 255] {
+        bytes[4] = version;
+        std::fs::write(&stream, &bytes).unwrap();
+        assert_eq!(told(&["trace", "--plain", &stream]).1, "22 4 0\n");
+    }
     std::fs::write(&stream, &bytes[..8]).unwrap();
     assert_eq!(told(&["trace", "--plain", &stream]).1, "21 8 0\n");
     let (status, _, err) = told(&["trace", &translated(&module, "9", "once.shown"), "--once"]);

@@ -57,9 +57,10 @@ static size_t one_tick_a_call(void) {
     lampthistle_fresh(state.cell);
     while (numbers < 2 * FRAMES) {
         uint64_t answer[3];
+        lampthistle_state before = state;
         lampthistle_play(module, length, state.cell, 1, out + numbers, LAMPTHISTLE_TICK_NUMBERS, answer);
         if (answer[2] != 1) return 0;
-        numbers += LAMPTHISTLE_NUMBERS_AT(state.cell[LAMPTHISTLE_TEMPO]);
+        numbers += lampthistle_tick_numbers(before.cell, state.cell);
     }
     return numbers / 2;
 }
