@@ -1,11 +1,11 @@
 //! The player and the board: playing N ticks from fresh, and translating N ticks and playing the stream, into equal buffers. Count and
 //! every cell are the same; on a file that is refused both refuse alike and leave everything.
 use crate::answers::same_cells;
+use crate::files::file;
 use crate::lent::{length, Lent};
 use crate::runs::{over, Tally};
-use lampthistle::{tick_frames, Answer, MOST_TICKS};
-use second::generate::damage::any_file;
-use second::generate::modules::{draft, module, Size};
+use lampthistle::{tick_numbers, Answer, MOST_TICKS};
+use second::generate::modules::{draft, Size};
 use second::generate::Random;
 
 /// Numbers that a buffer holds at most, apart from whole plays.
@@ -18,11 +18,7 @@ const START_BYTES: usize = 9;
 pub fn compare(first: u64, count: u64) -> Result<Tally, String> {
     over(first, count, |seed, tally| {
         let mut random = Random::new(seed ^ 0xA62E);
-        let file = match random.below(100) {
-            0..=9 => any_file(seed),
-            10..=39 => module(seed, Size::Medium),
-            _ => module(seed, Size::Small),
-        };
+        let file = file(&mut random, seed);
         let ticks = match random.below(40) {
             0 => MOST_TICKS,
             1..=3 => 0,
@@ -33,13 +29,13 @@ pub fn compare(first: u64, count: u64) -> Result<Tally, String> {
         };
         let exact = numbers_within(&file, ticks, MOST_NUMBERS);
         let room = length(&mut random, exact, MOST_NUMBERS);
-        tally[same(&file, ticks, room)? as usize] += 1;
+        tally[same(&file, ticks, room)?.number as usize] += 1;
         Ok(())
     })
 }
 
-/// All 65,535 ticks of a module at tempo 255, into a buffer that takes them exactly.
-pub fn compare_whole(seed: u64) -> Result<u64, String> {
+/// All 65,535 ticks of a module at tempo 255, into a buffer of so many frames; the ticks that both played.
+pub fn compare_whole(seed: u64, frames: usize) -> Result<u64, String> {
     let mut draft = draft(&mut Random::new(seed), Size::Medium);
     for cell in draft.patterns.iter_mut().flatten() {
         if cell.effect == 0xF && cell.parameter > 31 {
@@ -49,8 +45,9 @@ pub fn compare_whole(seed: u64) -> Result<u64, String> {
     let first = usize::from(draft.table[0]);
     let opening = &mut draft.patterns[first][0];
     (opening.effect, opening.parameter) = (0xF, 255);
-    let numbers = 2 * tick_frames(255) * MOST_TICKS as usize;
-    same(&draft.bytes(), MOST_TICKS, numbers).map_err(|what| format!("whole {seed}: {what}"))
+    let played = same(&draft.bytes(), MOST_TICKS, 2 * frames);
+    let counted = played.map_err(|what| format!("whole {seed}: {what}"))?;
+    counted.accepted().map_err(|refusal| refusal.to_string())
 }
 
 /// The numbers of the first `ticks` ticks, or of as many as `most` takes; 0 where the file is refused.
@@ -59,16 +56,17 @@ fn numbers_within(file: &[u8], ticks: u32, most: usize) -> usize {
     let mut out = vec![0; most];
     let mut numbers = 0;
     for _ in 0..ticks {
+        let before = state;
         if lampthistle::play(file, &mut state, 1, &mut out[numbers..]).count == 0 {
             break;
         }
-        numbers += 2 * state.last_tick_frames();
+        numbers += tick_numbers(&before, &state);
     }
     numbers
 }
 
-/// The number that both answer, or what differs.
-fn same(file: &[u8], ticks: u32, numbers: usize) -> Result<u64, String> {
+/// What both answer, or what differs.
+fn same(file: &[u8], ticks: u32, numbers: usize) -> Result<Answer, String> {
     let told = format!("{ticks} ticks into {numbers} numbers");
     let mut player = Lent::new(numbers);
     let mut board = player.clone();
@@ -82,7 +80,7 @@ fn same(file: &[u8], ticks: u32, numbers: usize) -> Result<u64, String> {
         return Err(format!("{told}: a refusal changed the state"));
     }
     same_cells("buffer", player.all(), board.all()).map_err(|what| format!("{told}: {what}"))?;
-    Ok(played.number)
+    Ok(played)
 }
 
 /// Translates and plays the stream; the answer of the last call that was made.

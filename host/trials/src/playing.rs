@@ -1,14 +1,14 @@
 //! Playing, touches and page changes: answer, state and every cell of the buffer, of both implementations, over calls that follow one
 //! another on one module, from fresh, legal and illegal states and on damaged files.
 use crate::answers::{same_answer, same_cells, same_state};
+use crate::files::file;
 use crate::lent::{length, Lent};
 use crate::runs::{over, Tally};
-use lampthistle::{cell, State};
-use second::generate::damage::any_file;
-use second::generate::modules::{module, Size};
-use second::generate::states::{illegal_state, legal_state, touch, Touch};
+use lampthistle::{cell, tick_numbers, State};
+use second::generate::states::{illegal_state, legal_state};
+use second::generate::touches::{touch, Touch};
 use second::generate::Random;
-use second::{tick_frames, STATE_CELLS};
+use second::STATE_CELLS;
 
 /// Calls on one module.
 const CALLS: u32 = 6;
@@ -22,12 +22,7 @@ pub fn compare(first: u64, count: u64) -> Result<Tally, String> {
 
 fn one(seed: u64, tally: &mut Tally) -> Result<(), String> {
     let mut random = Random::new(seed ^ 0x97A7);
-    let file = match random.below(100) {
-        0..=9 => any_file(seed),
-        10..=39 => module(seed, Size::Medium),
-        40 => module(seed, Size::Large),
-        _ => module(seed, Size::Small),
-    };
+    let file = file(&mut random, seed);
     let accepted = second::judge(&file).number == 0;
     let mut cells = first_state(&mut random, &file, accepted);
     for call in 0..CALLS {
@@ -65,9 +60,11 @@ fn same_play(
         _ => random.below(7),
     };
     let exact = numbers_of(file, cells, ticks.min(60));
+    let first = numbers_of(file, cells, 1);
     let mut ours = Lent::new(length(random, exact, MOST_NUMBERS));
     let mut other = ours.clone();
-    let mut state = State(*cells);
+    let before = State(*cells);
+    let mut state = before;
     let told = format!("play {ticks} ticks into {} numbers", ours.part().len());
     let answer = lampthistle::play(file, &mut state, ticks, ours.part());
     let second = second::play(file, cells, ticks, other.part());
@@ -75,6 +72,10 @@ fn same_play(
         .and_then(|number| {
             same_state(&state, cells)?;
             same_cells("buffer", ours.all(), other.all())?;
+            let told = tick_numbers(&before, &state);
+            if answer.count == 1 && told != first {
+                return Err(format!("a tick of {first} numbers, told as {told}"));
+            }
             Ok(number)
         })
         .map_err(|what| format!("{told}: {what}"))
@@ -83,16 +84,8 @@ fn same_play(
 /// The numbers that so many ticks take; 0 where they are refused.
 fn numbers_of(file: &[u8], cells: &[u32; STATE_CELLS], ticks: u32) -> usize {
     let mut cells = *cells;
-    let mut numbers = 0;
-    let mut tick = vec![0; 2 * tick_frames(32)];
-    for _ in 0..ticks {
-        if second::play(file, &mut cells, 1, &mut tick).count == 0 {
-            return 0;
-        }
-        // The tempo after a tick is the one that the tick had.
-        numbers += 2 * tick_frames(cells[cell::TEMPO]);
-    }
-    numbers
+    let tick = |_| second::trace_tick(file, &mut cells).map_or(0, |trace| trace.frames.len());
+    (0..ticks).map(tick).sum()
 }
 
 fn same_touch(

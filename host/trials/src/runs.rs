@@ -1,7 +1,10 @@
 //! Runs of many seeds: on all cores, with a tally of the answers met, and the first difference of each core named by its seed.
 
+/// The numbers that an answer may have: 0 to 36.
+const ANSWERS: usize = 37;
+
 /// How many answers had each number, by number; 0 is accepted.
-pub type Tally = [u64; 24];
+pub type Tally = [u64; ANSWERS];
 
 /// Tries `count` seeds from `first` on. `one` adds the answers that it met to the tally, or says what differs.
 pub fn over(
@@ -22,7 +25,7 @@ pub fn over(
             })
             .collect()
     });
-    let mut sum = Tally::default();
+    let mut sum = [0; ANSWERS];
     for tally in parts {
         for (s, t) in sum.iter_mut().zip(tally?) {
             *s += t;
@@ -36,7 +39,7 @@ fn part(
     steps: impl Iterator<Item = u64>,
     one: &impl Fn(u64, &mut Tally) -> Result<(), String>,
 ) -> Result<Tally, String> {
-    let mut tally = Tally::default();
+    let mut tally = [0; ANSWERS];
     for step in steps {
         let seed = first.wrapping_add(step);
         one(seed, &mut tally).map_err(|what| format!("seed {seed}: {what}"))?;

@@ -1,13 +1,11 @@
 //! Translation and stream play: answer and every cell of room and buffer, of both implementations, on generated modules and on legal,
 //! bad and damaged streams.
 use crate::answers::{same_answer, same_cells};
+use crate::files::file;
 use crate::lent::{length, Lent};
 use crate::runs::{over, Tally};
-use second::generate::damage::any_file;
-use second::generate::modules::{module, Size};
 use second::generate::streams::{bad_stream, damaged_stream, legal_stream};
 use second::generate::Random;
-use second::tick_frames;
 
 /// Numbers that a buffer holds at most.
 const MOST_NUMBERS: usize = 20_000;
@@ -24,12 +22,7 @@ pub fn compare(first: u64, count: u64) -> Result<Tally, String> {
 
 fn one(seed: u64, tally: &mut Tally) -> Result<(), String> {
     let mut random = Random::new(seed ^ 0x57AE);
-    let file = match random.below(100) {
-        0..=9 => any_file(seed),
-        10..=29 => module(seed, Size::Medium),
-        30 => module(seed, Size::Large),
-        _ => module(seed, Size::Small),
-    };
+    let file = file(&mut random, seed);
     let ticks = match random.below(100) {
         0 => random.pick(&[LIMIT - 1, LIMIT]),
         1..=4 => random.pick(&[LIMIT + 1, 2 * LIMIT + 2, u32::MAX]),
@@ -76,7 +69,8 @@ fn any_stream(random: &mut Random, file: &[u8], translated: &[u8]) -> Vec<u8> {
     match random.below(1_000) {
         0 => empty_records(random),
         1..=199 => (0..random.below(40)).map(|_| random.byte()).collect(),
-        200..=399 => translated.to_vec(),
+        200..=299 => translated.to_vec(),
+        300..=399 => by_the_old_rule(translated),
         400..=549 => damaged_stream(seed, translated),
         550..=699 if accepted => legal_stream(seed, file),
         700..=849 if accepted => bad_stream(seed, file).bytes,
@@ -85,12 +79,21 @@ fn any_stream(random: &mut Random, file: &[u8], translated: &[u8]) -> Vec<u8> {
     }
 }
 
+/// The same ticks as a stream of version 1.
+fn by_the_old_rule(translated: &[u8]) -> Vec<u8> {
+    let mut stream = translated.to_vec();
+    if let Some(version) = stream.get_mut(4) {
+        *version = 1;
+    }
+    stream
+}
+
 /// A stream of many records without a command, at times with one more or one less than it counts.
 fn empty_records(random: &mut Random) -> Vec<u8> {
     let count = random.between(100_000, 2_000_000);
     let told = count + random.pick(&[0, 0, 0, 1]) - random.pick(&[0, 0, 0, 1]);
     let mut stream = (2 * count + 5).to_be_bytes().to_vec();
-    stream.push(1);
+    stream.push(random.pick(&[1, 2]));
     stream.extend_from_slice(&told.to_be_bytes());
     for _ in 0..count {
         stream.extend_from_slice(&[0, 255]);
@@ -99,12 +102,12 @@ fn empty_records(random: &mut Random) -> Vec<u8> {
 }
 
 fn same_stream(random: &mut Random, stream: &[u8], file: &[u8]) -> Result<u64, String> {
-    let ticks = second::decode(stream).unwrap_or_default();
+    let lengths = second::decode(stream).unwrap_or_default().lengths();
     // All ticks, or as many as the largest buffer takes.
-    let exact = ticks
+    let exact = lengths
         .iter()
-        .scan(0, |sum, tick| {
-            *sum += 2 * tick_frames(tick.tempo);
+        .scan(0, |sum, frames| {
+            *sum += 2 * frames;
             (*sum <= MOST_NUMBERS).then_some(*sum)
         })
         .last()

@@ -10,5 +10,7 @@ fn player_and_board_agree() {
 
 #[test]
 fn player_and_board_agree_on_the_longest_translation() {
-    assert_eq!(compare_whole(1), Ok(0));
+    // 65,535 ticks at tempo 255 have exactly 30,840,000 frames: a frame less, and the last tick does not fit.
+    assert_eq!(compare_whole(1, 30_840_000), Ok(65_535));
+    assert_eq!(compare_whole(1, 30_839_999), Ok(65_534));
 }

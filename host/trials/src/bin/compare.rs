@@ -1,18 +1,19 @@
 //! `compare COUNT [SEED]`: the proved library against the second implementation, and the player against the board, on generated inputs
-//! from a seed on: COUNT files to judge, and COUNT / 100 modules for each of the others.
+//! from a seed on: COUNT files to judge, COUNT / 1,000 modules for long runs, and COUNT / 100 for each of the others.
 use std::process::ExitCode;
 use std::time::Instant;
 use trials::runs::{shown, Tally};
 use trials::say::say;
-use trials::{agreement, judging, playing, streaming};
+use trials::{agreement, judging, lengths, playing, streaming};
 
 /// A trial's name, its run over so many seeds from one on, and by how much fewer of them it takes.
 type Trial = (&'static str, fn(u64, u64) -> Result<Tally, String>, u64);
 
-const TRIALS: [Trial; 4] = [
+const TRIALS: [Trial; 5] = [
     ("judge", judging::compare, 1),
     ("play, touch, page", playing::compare, 100),
     ("translate, play_stream", streaming::compare, 100),
+    ("lengths of long runs", lengths::compare, 1_000),
     ("player and board", agreement::compare, 100),
 ];
 
