@@ -13,7 +13,7 @@ use borrow.Author.Tests.{eq-eqb}
 use Rattle.laws.specs.Each.{same-each}
 use Rattle.laws.specs.Ranges.{each}
 use Rattle.common.specs.Answers.{accepted, Outcome, outcome, refusing}
-use Rattle.common.specs.Bytes.{Bytes}
+use Rattle.common.specs.ByteLaws.{Bytes}
 use Rattle.common.specs.Limits.{width}
 use Rattle.common.specs.declared.Answer.{Answer}
 use Rattle.ticks.specs.Play.{over, fit, playOut}

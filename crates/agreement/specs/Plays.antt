@@ -12,8 +12,8 @@ use Rattle.ticks.specs.declared.Tick.{Tick}
 use Rattle.ticks.specs.Play.{over, Mechanism, afterAll, rendered, fit, playOut}
 use Rattle.ticks.specs.PlayLaws.{rendered-append}
 use Rattle.reader.specs.File.{Module}
-use Rattle.sequencer.specs.Runs.{ticksFrom, songAfter, soundingAfter}
-use Rattle.sequencer.specs.RunLaws.{ticks-add}
+use Rattle.sequencer.specs.Runs.{ticksFrom, songAfter}
+use Rattle.sequencer.specs.RunLaws.{ticks-add, soundingAfter}
 use Rattle.player.specs.declared.State.{State}
 use Rattle.player.specs.Play.{soundings, ticksOf}
 use Rattle.player.specs.Counts.{fit-within, first-fits, first-most, first-out}

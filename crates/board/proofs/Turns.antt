@@ -27,13 +27,14 @@ use Rattle.reader.specs.Samples.{extentsOf}
 use Rattle.reader.specs.declared.Extent.{Extent}
 use Rattle.reader.specs.declared.Layout.{Layout}
 use Rattle.voice.specs.declared.Voice.{Voice}
-use Rattle.voice.specs.Voice.{freshVoice, samplesIn, samplesOf}
+use Rattle.voice.specs.Voice.{freshVoice, samplesOf}
+use Rattle.voice.specs.Modules.{samplesIn}
 use Rattle.voice.specs.Frames.{blank}
 use Rattle.voice.specs.LegalFacts.{Ready}
 use Rattle.machine.specs.declared.Machine.{Machine}
 use Rattle.machine.specs.declared.Turn.{Turn}
-use Rattle.machine.specs.Machine.{freshMachine, mechanism, turned}
-use Rattle.machine.specs.Turn.{turnOf}
+use Rattle.machine.specs.Machine.{freshMachine, mechanism}
+use Rattle.machine.specs.Turn.{turnOf, turned}
 use Rattle.machine.specs.Turns.{turn-machine}
 use Rattle.machine.specs.Kept.{machine-fresh, after-below}
 use Rattle.machine.specs.Carries.{carries}

@@ -19,7 +19,8 @@ use Rattle.ticks.specs.Play.{over, Mechanism, fit, rendered, playOut}
 use Rattle.reader.specs.File.{moduleOf, sampleCount, channelCount}
 use Rattle.reader.specs.Layouts.{module-legal}
 use Rattle.reader.specs.Judge.{verdict}
-use Rattle.reader.specs.Samples.{Sample, extentsOf, sampleOf}
+use Rattle.reader.specs.Samples.{Sample, extentsOf}
+use Rattle.reader.specs.Extents.{sampleOf}
 use Rattle.voice.specs.Voice.{samplesOf}
 use Rattle.voice.specs.Modules.{sample-is}
 use Rattle.machine.specs.declared.Machine.{Machine}

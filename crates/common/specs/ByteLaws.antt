@@ -1,4 +1,4 @@
--- What was written as bytes is read: numbers of four bytes, and flags.
+-- Lists of bytes; and what was written as bytes is read: numbers of four bytes, and flags.
 -- Assumes nothing.
 use Prim.Native.Nat.{ℕ, _+_, _*_, _/_, _%_, _^_, _≤_, _<_}
 use mathlib.Core.Path.{_≡_, refl}
@@ -7,9 +7,13 @@ use mathlib.Core.List.{List, _++_}
 use native.Mathlib.Nat.{mod-eq-of-lt, div-add-mod'}
 use native.Mathlib.Omega.{arith}
 use lib.Dec.{eqb}
-use lib.ListN.{drop}
+use lib.ListN.{getD, drop}
 use Rattle.laws.specs.Positions.{at-offset, at-position}
 use Rattle.common.specs.Bytes.{fourAt, fourBytes, bit}
+
+-- every element is a byte: known of each slice of u8, and of no list
+abbrev pub Bytes : List ℕ → Type 0
+Bytes xs = (i : ℕ) → getD xs i 0 < 256
 
 -- ---- what was written is read
 four-parts : (n : ℕ) → n < 2 ^ 32 → ((n / 256 / 256 / 256 % 256 * 256 + n / 256 / 256 % 256) * 256 + n / 256 % 256) * 256 + n % 256 ≡ n

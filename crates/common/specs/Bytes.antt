@@ -1,13 +1,9 @@
 -- Bytes by their place, numbers of two and four bytes with the high byte first, and flags as numbers.
 -- Assumes nothing.
-use Prim.Native.Nat.{ℕ, _+_, _*_, _/_, _%_, _<_}
+use Prim.Native.Nat.{ℕ, _+_, _*_, _/_, _%_}
 use mathlib.Core.Bool.{Bool, true, false}
 use mathlib.Core.List.{List, [], _∷_}
 use lib.ListN.{getD}
-
--- every element is a byte: known of each slice of u8, and of no list
-abbrev pub Bytes : List ℕ → Type 0
-Bytes xs = (i : ℕ) → getD xs i 0 < 256
 
 -- the byte at a place, 0 past the end
 abbrev pub byteAt : List ℕ → ℕ → ℕ

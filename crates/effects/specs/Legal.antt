@@ -15,23 +15,16 @@ freshChannel = record { latched = 0; volume = 0; period = 0; target = 0; memory 
 
 -- ---- as questions
 -- every number 0
-abbrev pub freshTests : Channel → List Bool
-freshTests ch = eqb (ch .latched) 0 ∷ eqb (ch .volume) 0 ∷ eqb (ch .period) 0 ∷ eqb (ch .target) 0 ∷ eqb (ch .memory) 0 ∷ []
-
--- whether a channel is as fresh
 unfoldable pub isFresh : Channel → Bool
-isFresh ch = all (freshTests ch)
+isFresh ch = all (eqb (ch .latched) 0 ∷ eqb (ch .volume) 0 ∷ eqb (ch .period) 0 ∷ eqb (ch .target) 0 ∷ eqb (ch .memory) 0 ∷ [])
 
--- a test for each fact of a legal channel
-abbrev pub channelTests : ℕ → Channel → List Bool
-channelTests last ch =
-    leb (ch .latched) last
+-- latched sample to the last, volume to 64, period and target 0 or 113 to 856, slide memory 0 to 255
+unfoldable pub legalChannel : ℕ → Channel → Bool
+legalChannel last ch =
+    all
+    (leb (ch .latched) last
     ∷ leb (ch .volume) loudest
     ∷ legalPeriod (ch .period)
     ∷ legalPeriod (ch .target)
     ∷ leb (ch .memory) lastByte
-    ∷ []
-
--- whether a channel is legal
-unfoldable pub legalChannel : ℕ → Channel → Bool
-legalChannel last ch = all (channelTests last ch)
+    ∷ [])

@@ -10,7 +10,7 @@ use Rattle.common.specs.Limits.{loudest, lastByte}
 use Rattle.laws.specs.Ranges.{all, allFrom}
 use Rattle.common.specs.LimitFacts.{period-has, period-by, LegalPeriod}
 use Rattle.common.specs.LimitFacts.LegalPeriod.{silent}
-use Rattle.effects.specs.Legal.{freshChannel, freshTests, isFresh, channelTests, legalChannel}
+use Rattle.effects.specs.Legal.{freshChannel, isFresh, legalChannel}
 use Rattle.effects.specs.declared.Channel.{Channel}
 
 -- samples to the last, volumes to 64, periods and target 0 or 113 to 856, memory to 255
@@ -24,7 +24,7 @@ pub record LegalChannel (last : ℕ) (ch : Channel) : Type 0 where
 pub fresh-has : (ch : Channel) → isFresh ch ≡ true → ch ≡ freshChannel
 unfolding isFresh
 fresh-has ch e =
-    let h = all-at (freshTests ch) e in
+    let h = all-at _ e in
     rw (eqb-true (ch .latched) 0 (h 0), eqb-true (ch .volume) 0 (h 1), eqb-true (ch .period) 0 (h 2), eqb-true (ch .target) 0 (h 3), eqb-true (ch .memory) 0 (h 4))
 
 pub fresh-by : (ch : Channel) → ch ≡ freshChannel → isFresh ch ≡ true
@@ -34,7 +34,7 @@ fresh-by ch e = rw e
 pub channel-has : (last : ℕ) (ch : Channel) → legalChannel last ch ≡ true → LegalChannel last ch
 unfolding legalChannel
 channel-has last ch e =
-    let h = all-at (channelTests last ch) e in
+    let h = all-at _ e in
     record {
       latched = leb-true (ch .latched) last (h 0);
       volume = leb-true (ch .volume) loudest (h 1);
@@ -46,7 +46,7 @@ channel-has last ch e =
 pub channel-by : (last : ℕ) (ch : Channel) → LegalChannel last ch → legalChannel last ch ≡ true
 unfolding legalChannel Each
 channel-by last ch h =
-    all-by (channelTests last ch) (le-leb _ _ (h .latched), (le-leb _ _ (h .volume), (period-by _ (h .period), (period-by _ (h .target), (le-leb _ _ (h .memory), tt)))))
+    all-by _ (le-leb _ _ (h .latched), (le-leb _ _ (h .volume), (period-by _ (h .period), (period-by _ (h .target), (le-leb _ _ (h .memory), tt)))))
 
 -- a fresh channel is legal
 pub fresh-channel-legal : (last : ℕ) → LegalChannel last freshChannel

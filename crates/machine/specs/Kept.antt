@@ -9,7 +9,7 @@ use lib.IntN.{pos}
 use lib.ListN.{length, getD}
 use lib.Signed.{mag}
 use Rattle.laws.specs.Each.{length-each, getD-each}
-use Rattle.common.specs.Bytes.{Bytes}
+use Rattle.common.specs.ByteLaws.{Bytes}
 use Rattle.common.specs.Limits.{width, loudest}
 use Rattle.ticks.specs.declared.Tick.{Tick}
 use Rattle.ticks.specs.Commands.{nothing}
@@ -19,11 +19,12 @@ use Rattle.reader.specs.declared.Layout.{Layout}
 use Rattle.reader.specs.File.{Module, channelCount}
 use Rattle.reader.specs.Samples.{Sample}
 use Rattle.voice.specs.declared.Voice.{Voice}
-use Rattle.voice.specs.Voice.{freshVoice, samplesIn, half16}
+use Rattle.voice.specs.Voice.{freshVoice}
+use Rattle.voice.specs.Modules.{samplesIn}
 use Rattle.voice.specs.Frames.{blank, soundingAt}
 use Rattle.voice.specs.Kept.{fresh-legal}
 use Rattle.voice.specs.Moved.{moved-length, moved-sample, moved-rest, moved-legal, mixed-same, moved-same}
-use Rattle.voice.specs.Range.{mixed-fits}
+use Rattle.voice.specs.Range.{mixed-fits, half16}
 use Rattle.machine.specs.declared.Machine.{Machine}
 use Rattle.machine.specs.Lengths.{keptAt}
 use Rattle.machine.specs.LengthLaws.{kept-below}

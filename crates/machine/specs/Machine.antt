@@ -18,9 +18,7 @@ use Rattle.voice.specs.Voice.{freshVoice, samplesOf}
 use Rattle.voice.specs.Frames.{frameNumbers, mixed, moved}
 use Rattle.voice.specs.Moved.{length-mixed}
 use Rattle.machine.specs.declared.Machine.{Machine}
-use Rattle.machine.specs.declared.Turn.{Turn}
 use Rattle.machine.specs.Lengths.{carriedAt, lengthAt, keptAt}
-use Rattle.machine.specs.Turn.{Turned, turn}
 
 -- fresh: each voice stopped, its numbers 0, tempo 125, remainder 0
 unfoldable pub freshMachine : Machine
@@ -64,7 +62,3 @@ mechanism keeps channels samples = record { size = tickSize; frames = frames cha
 -- how a module's ticks are played
 abbrev pub mechanismOf : Module → Mechanism ℤ Machine Tick
 mechanismOf m = mechanism true (channelCount m) (samplesOf m)
-
--- a turn as it was returned, with the buffer that it left
-abbrev pub turned : Turn → List ℤ → Turned ℤ Machine
-turned r out = turn (r .full) (r .size) (r .machine) out

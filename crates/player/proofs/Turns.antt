@@ -22,11 +22,12 @@ use Rattle.sequencer.specs.declared.Worked.{Worked}
 use Rattle.sequencer.specs.Songs.{tickOf}
 use Rattle.voice.specs.LegalFacts.{Ready}
 use Rattle.voice.specs.declared.Voice.{Voice}
-use Rattle.voice.specs.Voice.{samplesIn, samplesOf}
+use Rattle.voice.specs.Voice.{samplesOf}
+use Rattle.voice.specs.Modules.{samplesIn}
 use Rattle.machine.specs.declared.Machine.{Machine}
 use Rattle.machine.specs.declared.Turn.{Turn}
-use Rattle.machine.specs.Machine.{mechanism, turned, mechanismOf}
-use Rattle.machine.specs.Turn.{turnOf}
+use Rattle.machine.specs.Machine.{mechanism, mechanismOf}
+use Rattle.machine.specs.Turn.{turnOf, turned}
 use Rattle.machine.specs.Turns.{turn-machine}
 use Rattle.machine.specs.Kept.{after-below}
 use Rattle.player.specs.declared.State.{State}

@@ -11,7 +11,7 @@ use borrow.Author.Tests.{eq-eqb, ne-eqb}
 use Rattle.laws.specs.Ranges.{all, allFrom}
 use Rattle.reader.specs.Layouts.{LegalLayout}
 use Rattle.common.specs.Answers.{Line, refused, accepted, outcome, refusing}
-use Rattle.common.specs.Bytes.{Bytes}
+use Rattle.common.specs.ByteLaws.{Bytes}
 use Rattle.common.specs.declared.Answer.{Answer}
 use Rattle.reader.specs.File.{Module, lent, fourChannels, moduleOf, songLength}
 use Rattle.reader.specs.Judge.{verdict}

@@ -17,7 +17,7 @@ use Rattle.sequencer.specs.Songs.{tickOf}
 use Rattle.sequencer.specs.Runs.{ticksFrom, songAfter}
 use Rattle.sequencer.specs.RunLaws.{tick-tempo, length-ticks}
 use Rattle.player.specs.declared.State.{State}
-use Rattle.player.specs.Play.{soundings, ticksOf, machineOf, stateAfter, countOf, playedFrom, numbersOf, roomOf}
+use Rattle.player.specs.Play.{soundings, ticksOf, machineOf, stateAfter, countOf, playedFrom, numbersOf}
 use Rattle.ticks.specs.PlayLaws.{fit-le, fit-fits, fit-most}
 use Rattle.voice.specs.Voice.{samplesOf}
 use Rattle.voice.specs.Frames.{frameNumbers}
@@ -25,6 +25,10 @@ use Rattle.machine.specs.declared.Machine.{Machine}
 use Rattle.machine.specs.Lengths.{tickFrames}
 use Rattle.machine.specs.Machine.{after, mechanismOf}
 use Rattle.machine.specs.Drift.{AtTempo, no-drift}
+
+-- how many cells the numbers of k ticks take
+abbrev pub roomOf : Module → ℕ → State → ℕ
+roomOf m k s = length (numbersOf m k s)
 
 take-ticks : (m : Module) (k n : ℕ) (song : Song) (sounding : List ℕ) → k ≤ n → take k (ticksFrom m n song sounding) ≡ ticksFrom m k song sounding
 unfolding ticksFrom

@@ -9,7 +9,7 @@ use borrow.Author.Tests.{ltb-true, not-false}
 use lib.IntN.{ℤ}
 use lib.ListN.{length}
 use Rattle.common.specs.Answers.{refused, accepted, Outcome, refusing}
-use Rattle.common.specs.Bytes.{Bytes}
+use Rattle.common.specs.ByteLaws.{Bytes}
 use Rattle.common.specs.Limits.{width}
 use Rattle.ticks.specs.declared.Tick.{Tick}
 use Rattle.ticks.specs.Play.{Mechanism, afterAll}
@@ -21,8 +21,8 @@ use Rattle.sequencer.specs.LegalFacts.{LegalSong}
 use Rattle.reader.specs.declared.Layout.{Layout}
 use Rattle.sequencer.specs.declared.Song.{Song}
 use Rattle.sequencer.specs.Songs.{tickOf}
-use Rattle.sequencer.specs.Runs.{ticksFrom, songAfter, soundingAfter}
-use Rattle.sequencer.specs.RunLaws.{tick-tempo}
+use Rattle.sequencer.specs.Runs.{ticksFrom, songAfter}
+use Rattle.sequencer.specs.RunLaws.{tick-tempo, soundingAfter}
 use Rattle.sequencer.specs.NextKept.{row-begins, position-begins}
 use Rattle.voice.specs.declared.Voice.{Voice}
 use Rattle.voice.specs.Voice.{samplesOf}

@@ -11,7 +11,7 @@ use lib.Seq.{ext-getD}
 use borrow.Author.Tests.{ltb-true, ltb-false}
 use Rattle.laws.specs.Each.{length-each, getD-each, same-each}
 use Rattle.laws.specs.Ranges.{each}
-use Rattle.common.specs.Bytes.{Bytes}
+use Rattle.common.specs.ByteLaws.{Bytes}
 use Rattle.common.specs.Limits.{width}
 use Rattle.ticks.specs.declared.Tick.{Tick}
 use Rattle.ticks.specs.Legal.{LegalTick, getD-sounding}

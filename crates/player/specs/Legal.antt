@@ -8,7 +8,7 @@ use lib.ListN.{length}
 use borrow.Author.Tests.{ltb-true, lt-ltb}
 use Rattle.laws.specs.Every.{all-at, all-by, Each}
 use Rattle.common.specs.Answers.{refused, accepted, refusing}
-use Rattle.common.specs.Bytes.{Bytes}
+use Rattle.common.specs.ByteLaws.{Bytes}
 use Rattle.common.specs.Limits.{width}
 use Rattle.common.specs.declared.Answer.{Answer}
 use Rattle.reader.specs.File.{Module, songLength}
@@ -19,7 +19,7 @@ use Rattle.reader.specs.Layouts.{LegalLayout}
 use Rattle.voice.specs.LegalFacts.{LegalVoices, voices-has, voices-by}
 use Rattle.voice.specs.declared.Voice.{Voice}
 use Rattle.player.specs.declared.State.{State}
-use Rattle.player.specs.State.{stateTests, legalState, stateLines}
+use Rattle.player.specs.State.{legalState, stateLines}
 use Rattle.sequencer.specs.LegalFacts.{song-has, song-by, LegalSong}
 
 -- a legal song with legal voices
@@ -36,7 +36,7 @@ module _ (m : Module) (y : LegalLayout (m .layout)) (s : State) where
   pub state-has : length (s .voices) ≡ width → legalState m s ≡ true → LegalState m s
   unfolding legalState
   state-has l e =
-      let h = all-at (stateTests m s) e in
+      let h = all-at _ e in
       record {
         voiced =
             record {
@@ -49,7 +49,7 @@ module _ (m : Module) (y : LegalLayout (m .layout)) (s : State) where
   pub state-by : LegalState m s → legalState m s ≡ true
   unfolding legalState Each
   state-by l =
-      all-by (stateTests m s)
+      all-by _
       (song-by (songLength m) (m .layout) (y .channels) (s .song) (l .voiced .song), (voices-by (m .layout) (extentsOf m) (s .voices) (l .voiced .voices), (lt-ltb (s .remainder) (s .song .time .tempo) (l .remainder), tt)))
 
 -- ---- what the calls go by

@@ -10,7 +10,7 @@ use lib.Signed.{mag}
 use lib.ListN.{length, getD, take, drop, length-drop}
 use lib.Seq.{take-append-seam}
 use Rattle.common.specs.Answers.{accepted, Outcome, outcome}
-use Rattle.common.specs.Bytes.{Bytes}
+use Rattle.common.specs.ByteLaws.{Bytes}
 use Rattle.common.specs.Limits.{width}
 use Rattle.ticks.specs.Play.{rendered}
 use Rattle.reader.specs.File.{Module, moduleOf, channelCount}
@@ -20,9 +20,10 @@ use Rattle.reader.specs.Layouts.{LegalLayout, module-legal}
 use Rattle.reader.specs.Samples.{extentsOf}
 use Rattle.sequencer.specs.declared.Song.{Song}
 use Rattle.sequencer.specs.Songs.{tickOf}
-use Rattle.sequencer.specs.Runs.{ticksFrom, soundingAfter}
-use Rattle.sequencer.specs.RunLaws.{length-ticks, ticks-add, song-add}
-use Rattle.voice.specs.Voice.{samplesOf, half16}
+use Rattle.sequencer.specs.Runs.{ticksFrom}
+use Rattle.sequencer.specs.RunLaws.{length-ticks, ticks-add, song-add, soundingAfter}
+use Rattle.voice.specs.Voice.{samplesOf}
+use Rattle.voice.specs.Range.{half16}
 use Rattle.voice.specs.Modules.{samples-bytes}
 use Rattle.machine.specs.declared.Machine.{Machine}
 use Rattle.machine.specs.Machine.{frames, mechanismOf}
@@ -30,10 +31,10 @@ use Rattle.machine.specs.Kept.{frames-fit}
 use Rattle.player.specs.declared.State.{State}
 use Rattle.player.specs.declared.Reply.{Reply}
 use Rattle.player.specs.State.{legalState, reply}
-use Rattle.player.specs.Play.{soundings, machineOf, ticksOf, countOf, playedFrom, playOf, numbersOf, roomOf}
+use Rattle.player.specs.Play.{soundings, machineOf, ticksOf, countOf, playedFrom, playOf, numbersOf}
 use Rattle.player.specs.Legal.{LegalVoiced, LegalState, state-has, state-by}
 use Rattle.player.specs.Kept.{state-run, tick-is-legal, tick-kept, after-soundings}
-use Rattle.player.specs.Counts.{ticked, machine-ticked, count-fits, played-state, played-out}
+use Rattle.player.specs.Counts.{ticked, machine-ticked, count-fits, played-state, played-out, roomOf}
 use Rattle.player.specs.Keeps.{ticks-soundings, ticked-legal, play-accepted}
 use Rattle.machine.specs.Carries.{carries}
 

@@ -55,7 +55,3 @@ playOf bytes s n out =
 -- the numbers of k ticks from a state
 abbrev pub numbersOf : Module → ℕ → State → List ℤ
 numbersOf m k s = rendered (mechanismOf m) (machineOf s) (ticksOf m k s)
-
--- how many cells they take
-abbrev pub roomOf : Module → ℕ → State → ℕ
-roomOf m k s = length (numbersOf m k s)

@@ -8,7 +8,7 @@ use native.Mathlib.Omega.{arith}
 use native.Mathlib.Nat.{add-zero}
 use lib.ListN.{length, take, drop}
 use borrow.Rule.Slice.PartMut.{putMid}
-use Rattle.common.specs.Bytes.{Bytes}
+use Rattle.common.specs.ByteLaws.{Bytes}
 use Rattle.ticks.specs.declared.Tick.{Tick}
 use Rattle.ticks.specs.Play.{Mechanism, fit, afterFit, playOut}
 use Rattle.ticks.specs.Playing.{Playing, Played, playing-none, playing-all}

@@ -22,15 +22,13 @@ unfoldable pub freshState : State
 freshState = record { song = freshSong; voices = each (λ i. freshVoice) width; remainder = 0 }
 
 -- legal: the song, each voice with its sample's end, and the remainder below tempo
-abbrev pub stateTests : Module → State → List Bool
-stateTests m s =
-    legalSong (songLength m) (m .layout) (s .song)
+unfoldable pub legalState : Module → State → Bool
+legalState m s =
+    all
+    (legalSong (songLength m) (m .layout) (s .song)
     ∷ legalVoices (m .layout) (extentsOf m) (s .voices)
     ∷ ltb (s .remainder) (s .song .time .tempo)
-    ∷ []
-
-unfoldable pub legalState : Module → State → Bool
-legalState m s = all (stateTests m s)
+    ∷ [])
 
 -- 1 to 9 come first; where a state is given, 14 is next
 abbrev pub stateLines : Module → State → List Line → List Line

@@ -13,7 +13,8 @@ use Rattle.reader.specs.Layouts.{LegalLayout}
 use Rattle.laws.specs.Each.{Parting, part-again, part-end, getD-replicate}
 use Rattle.reader.specs.File.{Module, lent, patternsOf, sampleCount, sampleWords, loopStart, loopLength, sampleBehind, samplePlace}
 use Rattle.reader.specs.Judge.{verdict}
-use Rattle.reader.specs.Samples.{noExtent, extentOf, extentsOf, Placed}
+use Rattle.reader.specs.Samples.{noExtent, extentOf, extentsOf}
+use Rattle.reader.specs.Extents.{Placed}
 use Rattle.common.specs.Limits.{sampleNumbers}
 use Rattle.reader.specs.Accept.{accepted-has}
 use Rattle.reader.specs.declared.Layout.{Layout}

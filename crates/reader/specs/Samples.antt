@@ -1,7 +1,6 @@
 -- The samples: where each lies in the file, its end and its loop. A sample number counts from 1, and 0 is none.
 -- Assumes nothing.
-use Prim.Native.Nat.{ℕ, zero, suc, _+_, _-_, _*_, _≤_}
-use mathlib.Core.Path.{_≡_}
+use Prim.Native.Nat.{ℕ, zero, suc, _+_, _-_, _*_}
 use mathlib.Core.Bool.{Bool, false, cond}
 use mathlib.Core.List.{List}
 use lib.Dec.{ltb}
@@ -38,11 +37,6 @@ extentOf m (suc k) =
       first = firstOf m k;
     }
 
--- sample number k + 1, which is at most 65,535 words long
-pub record Placed (m : Module) (k : ℕ) (x : Extent) : Type 0 where
-  pub is : x ≡ extentOf m (suc k)
-  pub short : x .to ≤ x .from + 131070
-
 -- a table of them by sample number has as many entries for every layout
 abbrev pub extentsOf : Module → List Extent
 extentsOf m = padded (extentOf m) noExtent (sampleCount m + 1) sampleNumbers
@@ -57,6 +51,3 @@ pub record Sample : Type 0 where
 abbrev pub sampleIn : Module → Extent → Sample
 sampleIn m x =
     record { bytes = take (x .to - x .from) (drop (x .from) (m .bytes)); end = x .end; looped = x .looped; first = x .first }
-
-unfoldable pub sampleOf : Module → ℕ → Sample
-sampleOf m k = sampleIn m (extentOf m k)

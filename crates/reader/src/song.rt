@@ -3,7 +3,7 @@ ghost use mathlib.Core.Path.{_≡_};
 ghost use Prim.Native.Nat.{_+_, _-_, _<_, _^_};
 ghost use Rattle.reader.specs.File.{lent, songLength, headerVolume};
 ghost use Rattle.reader.specs.Judge.{verdict};
-ghost use Rattle.common.specs.Bytes.{Bytes};
+ghost use Rattle.common.specs.ByteLaws.{Bytes};
 ghost use Rattle.reader.specs.Cells.{effectOf, cellFrom, cellAt};
 ghost use Rattle.reader.specs.Layouts.{LegalLayout};
 use crate::Cell;

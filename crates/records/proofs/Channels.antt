@@ -17,7 +17,7 @@ use Rattle.ticks.specs.declared.Command.{Command}
 use Rattle.ticks.specs.declared.Tick.{Tick}
 use Rattle.common.specs.ByteLaws.{bit-most}
 use Rattle.ticks.specs.Commands.{nothing}
-use Rattle.records.specs.Legal.{Spellable, AllSpellable, SpellableTick}
+use Rattle.records.specs.LegalLaws.{Spellable, AllSpellable, SpellableTick}
 use Rattle.records.specs.Format.{bodyBytes, changed, mask, commandBytes, channelBytes, channelsBytes}
 use Rattle.records.specs.Length.{channel-most}
 

@@ -21,8 +21,8 @@ use Rattle.ticks.specs.Commands.{nothing, soundingOf}
 use Rattle.ticks.specs.declared.Command.{Command}
 use Rattle.ticks.specs.declared.Tick.{Tick}
 use Rattle.ticks.specs.Legal.{LegalCommand, LegalTick, length-sounding, getD-sounding, LegalTicks, none, more}
-use Rattle.records.specs.Legal.{Unused, legalBeside}
-use Rattle.records.specs.LegalLaws.{beside-has}
+use Rattle.records.specs.Legal.{legalBeside}
+use Rattle.records.specs.LegalLaws.{beside-has, Unused}
 use Rattle.records.specs.Registers.{Beside, nothing-legal, Holding, first-at, first-holding, take-holding, tick-holding}
 use Rattle.records.specs.Reads.{on-good, not-read, passed, not-ticks, with-ticks}
 use Rattle.records.specs.Format.{versionPlace, countPlace, recordsPlace, headBytes, tempoPlace, bodyBytes, startPlace, atFirst, Read, bad, read, readOn, held, spelled, readBody, readChannel, readChannels, readTick, readRecord, Decoded, refusal, ticks, withTick, decodeRecords, decodeAfter, decode}

@@ -1,9 +1,9 @@
 -- Laws of what is legal in a record: the decoder's tests say what `LegalCommand` means (`beside-has`, `beside-by`), legal ticks can be spelled
--- (`tick-spellable`), and a tick that is padded with nothing leaves channels unused (`padded-unused`). Assumes nothing.
+-- by a record's bytes (`tick-spellable`), and a tick that is padded with nothing leaves channels unused (`padded-unused`). Assumes nothing.
 use Prim.Native.Nat.{ℕ, _≤_, _<_}
 use mathlib.Core.Path.{_≡_, refl}
 use mathlib.Core.Bool.{Bool, true, false, _||_, true≢false}
-use mathlib.Core.List.{List}
+use mathlib.Core.List.{List, [], _∷_}
 use native.Mathlib.Omega.{arith}
 use lib.Dec.{eqb, ltb}
 use lib.ListN.{length, getD, List·getD-eq-default}
@@ -14,10 +14,37 @@ use Rattle.common.specs.Limits.{width, loudest, lastByte}
 use Rattle.ticks.specs.declared.Command.{Command}
 use Rattle.ticks.specs.declared.Tick.{Tick}
 use Rattle.ticks.specs.Legal.{LegalCommand, LegalTick}
-use Rattle.records.specs.Legal.{commandTests, legalBeside, Unused, Spellable, SpellableTick}
+use Rattle.records.specs.Legal.{legalBeside}
 use Rattle.laws.specs.Ranges.{padded}
 use Rattle.common.specs.LimitFacts.{LegalPeriod, silent, sounding, period-has, period-by}
 use Rattle.ticks.specs.Commands.{nothing}
+
+-- ---- the channels in use
+-- nothing is told the channels past the first c
+abbrev pub Unused : ℕ → List Command → Type 0
+Unused c cs = (i : ℕ) → c ≤ i → getD cs i nothing ≡ nothing
+
+-- in none of these ticks
+abbrev pub AllUnused : ℕ → List Tick → Type 0
+AllUnused c [] = Unit
+AllUnused c (t ∷ ts) = Unused c (t .commands) × AllUnused c ts
+
+-- ---- what bytes can spell
+-- sample, volume and offset are bytes, the period two
+pub record Spellable (c : Command) : Type 0 where
+  pub sample : c .sample ≤ lastByte
+  pub volume : c .volume ≤ lastByte
+  pub period : c .period < 65536
+  pub offset : c .offset ≤ lastByte
+
+-- the commands of the first c channels are such
+abbrev pub AllSpellable : ℕ → List Command → Type 0
+AllSpellable c cs = (i : ℕ) → i < c → Spellable (getD cs i nothing)
+
+-- and the tempo is a byte
+pub record SpellableTick (c : ℕ) (t : Tick) : Type 0 where
+  pub tempo : t .tempo ≤ lastByte
+  pub commands : AllSpellable c (t .commands)
 
 -- ---- what is tested is what is meant
 unless-has : (start b : Bool) → start || b ≡ true → start ≡ false → b ≡ true
@@ -32,7 +59,7 @@ module _ (last sounded : ℕ) (c : Command) where
   pub beside-has : legalBeside last sounded c ≡ true → LegalCommand last sounded c
   unfolding legalBeside
   beside-has e =
-      let at = all-at (commandTests last sounded c) e in
+      let at = all-at _ e in
       record {
         sample = leb-true (c .sample) last (at 0);
         volume = leb-true (c .volume) loudest (at 1);
@@ -45,7 +72,7 @@ module _ (last sounded : ℕ) (c : Command) where
   pub beside-by : LegalCommand last sounded c → legalBeside last sounded c ≡ true
   unfolding legalBeside Each
   beside-by l =
-      all-by (commandTests last sounded c) (
+      all-by _ (
         le-leb (c .sample) last (l .sample),
         (
           le-leb (c .volume) loudest (l .volume),

@@ -21,8 +21,7 @@ use Rattle.common.specs.Answers.{refusing}
 use Rattle.ticks.specs.declared.Command.{Command}
 use Rattle.ticks.specs.declared.Tick.{Tick}
 use Rattle.ticks.specs.Legal.{LegalCommand, LegalTick, length-sounding, getD-sounding, LegalTicks, more}
-use Rattle.records.specs.Legal.{Unused, AllUnused}
-use Rattle.records.specs.LegalLaws.{beside-by}
+use Rattle.records.specs.LegalLaws.{beside-by, Unused, AllUnused}
 use Rattle.records.specs.Registers.{first-at, Beside}
 use Rattle.records.specs.Length.{stream-length}
 use Rattle.records.specs.Format.{versionPlace, countPlace, recordsPlace, headBytes, tempoPlace, bodyBytes, startPlace, knownVersion, atFirst, changed, mask, commandBytes, channelBytes, channelsBytes, recordBytes, records, streamHeader, encodeAfter, encode, read, readOn, held, spelled, readBody, readChannel, readChannels, readRecord, ticks, withTick, decodeRecords, decodeAfter, decode}

@@ -7,7 +7,7 @@ ghost use lib.Seq.{sets};
 ghost use Rattle.common.specs.Limits.{width};
 ghost use Rattle.common.specs.Bytes.{bit};
 ghost use Rattle.ticks.specs.Play.{over};
-ghost use Rattle.records.specs.Legal.{Spellable, AllSpellable, SpellableTick};
+ghost use Rattle.records.specs.LegalLaws.{Spellable, AllSpellable, SpellableTick};
 ghost use Rattle.records.specs.Format.{recordsPlace, headBytes, bodyBytes, atFirst, changed, mask, commandBytes, channelBytes, channelsBytes, recordBytes, streamHeader};
 use common::bytes::bit_of;
 use common::bytes::put_four;

@@ -13,7 +13,7 @@ use lib.Dec.{ltb}
 use lib.ListN.{length, getD, set, replicate}
 use Rattle.laws.specs.Each.{each-by, Filled, fill-end, Parting, pad-begin, part-again, part-end}
 use Rattle.common.specs.Limits.{width}
-use Rattle.common.specs.Bytes.{Bytes}
+use Rattle.common.specs.ByteLaws.{Bytes}
 use Rattle.ticks.specs.Legal.{length-sounding, getD-sounding}
 use Rattle.ticks.specs.declared.Command.{Command}
 use Rattle.reader.specs.File.{Module, lent, songLength, channelCount}

@@ -10,7 +10,7 @@ use lib.Dec.{eqb, lit<, lit≤}
 use lib.ListN.{getD}
 use Rattle.laws.specs.Choice.{either}
 use Rattle.laws.specs.Each.{getD-each, length-partly, getD-first, getD-other, partly-each}
-use Rattle.common.specs.Bytes.{Bytes}
+use Rattle.common.specs.ByteLaws.{Bytes}
 use Rattle.common.specs.Limits.{width, lastByte}
 use Rattle.common.specs.LimitFacts.LegalPeriod.{silent}
 use Rattle.ticks.specs.Commands.{nothing}

@@ -16,7 +16,7 @@ use Rattle.effects.specs.Legal.{freshChannel}
 use Rattle.effects.specs.LegalFacts.{fresh-has, fresh-by, channel-has, channel-by, LegalChannel}
 use Rattle.effects.specs.declared.Channel.{Channel}
 use Rattle.sequencer.specs.Songs.{rowTicks}
-use Rattle.sequencer.specs.Legal.{leastSpeed, greatestSpeed, lastDelay, placeTests, legalPlace, loopTests, legalLoop, courseTests, legalCourse, timeTests, legalTime, legalOrFresh, legalAt, songTests, legalSong}
+use Rattle.sequencer.specs.Legal.{leastSpeed, greatestSpeed, lastDelay, legalPlace, legalLoop, legalCourse, legalTime, legalOrFresh, legalAt, legalSong}
 use Rattle.sequencer.specs.declared.Place.{Place}
 use Rattle.sequencer.specs.declared.Loop.{Loop}
 use Rattle.sequencer.specs.declared.Course.{Course}
@@ -71,36 +71,36 @@ pub record LegalRun (m : Module) (s : Song) (k : List ℕ) : Type 0 where
 place-has : (positions : ℕ) (p : Place) → legalPlace positions p ≡ true → LegalPlace positions p
 unfolding legalPlace
 place-has positions p e =
-    let h = all-at (placeTests positions p) e in
+    let h = all-at _ e in
     record { position = ltb-true (p .position) positions (h 0); row = leb-true (p .row) lastRow (h 1) }
 
 place-by : (positions : ℕ) (p : Place) → LegalPlace positions p → legalPlace positions p ≡ true
 unfolding legalPlace Each
-place-by positions p h = all-by (placeTests positions p) (lt-ltb _ _ (h .position), (le-leb _ _ (h .row), tt))
+place-by positions p h = all-by _ (lt-ltb _ _ (h .position), (le-leb _ _ (h .row), tt))
 
 loop-has : (l : Loop) → legalLoop l ≡ true → LegalLoop l
 unfolding legalLoop
-loop-has l e = let h = all-at (loopTests l) e in record { row = leb-true (l .row) lastRow (h 0); count = leb-true (l .count) lastDelay (h 1) }
+loop-has l e = let h = all-at _ e in record { row = leb-true (l .row) lastRow (h 0); count = leb-true (l .count) lastDelay (h 1) }
 
 loop-by : (l : Loop) → LegalLoop l → legalLoop l ≡ true
 unfolding legalLoop Each
-loop-by l h = all-by (loopTests l) (le-leb _ _ (h .row), (le-leb _ _ (h .count), tt))
+loop-by l h = all-by _ (le-leb _ _ (h .row), (le-leb _ _ (h .count), tt))
 
 course-has : (positions : ℕ) (c : Course) → legalCourse positions c ≡ true → LegalCourse positions c
 unfolding legalCourse
 course-has positions c e =
-    let h = all-at (courseTests positions c) e in
+    let h = all-at _ e in
     record { at = place-has positions (c .at) (h 0); next = place-has positions (c .next) (h 1); looping = loop-has (c .looping) (h 2) }
 
 course-by : (positions : ℕ) (c : Course) → LegalCourse positions c → legalCourse positions c ≡ true
 unfolding legalCourse Each
 course-by positions c h =
-    all-by (courseTests positions c) (place-by positions (c .at) (h .at), (place-by positions (c .next) (h .next), (loop-by (c .looping) (h .looping), tt)))
+    all-by _ (place-by positions (c .at) (h .at), (place-by positions (c .next) (h .next), (loop-by (c .looping) (h .looping), tt)))
 
 time-has : (t : Time) → legalTime t ≡ true → LegalTime t
 unfolding legalTime
 time-has t e =
-    let h = all-at (timeTests t) e in
+    let h = all-at _ e in
     record {
       speed = between-has leastSpeed greatestSpeed (t .speed) (h 0);
       delay = leb-true (t .delay) lastDelay (h 1);
@@ -111,7 +111,7 @@ time-has t e =
 time-by : (t : Time) → LegalTime t → legalTime t ≡ true
 unfolding legalTime Each
 time-by t h =
-    all-by (timeTests t) (between-by _ _ _ (h .speed), (le-leb _ _ (h .delay), (lt-ltb _ _ (h .tick), (between-by _ _ _ (h .tempo), tt))))
+    all-by _ (between-by _ _ _ (h .speed), (le-leb _ _ (h .delay), (lt-ltb _ _ (h .tick), (between-by _ _ _ (h .tempo), tt))))
 
 module _ (l : Layout) (room : l .channels ≤ width) (chs : List Channel) (e : every (legalAt l chs) width ≡ true) (i : ℕ) where
   used-has : i < l .channels → LegalChannel (l .samples) (getD chs i freshChannel)
@@ -126,7 +126,7 @@ module _ (positions : ℕ) (l : Layout) (room : l .channels ≤ width) (s : Song
   pub song-has : legalSong positions l s ≡ true → LegalSong positions l s
   unfolding legalSong
   song-has e =
-      let h = all-at (songTests positions l s) e in
+      let h = all-at _ e in
       record {
         course = course-has positions (s .course) (h 0);
         time = time-has (s .time) (h 1);
@@ -143,4 +143,4 @@ module _ (positions : ℕ) (l : Layout) (room : l .channels ≤ width) (s : Song
   pub song-by : LegalSong positions l s → legalSong positions l s ≡ true
   unfolding legalSong Each
   song-by h =
-      all-by (songTests positions l s) (course-by positions (s .course) (h .course), (time-by (s .time) (h .time), (every-by (legalAt l (s .channels)) width (used-by h), tt)))
+      all-by _ (course-by positions (s .course) (h .course), (time-by (s .time) (h .time), (every-by (legalAt l (s .channels)) width (used-by h), tt)))

@@ -12,7 +12,7 @@ use lib.ListN.{length, getD}
 use Rattle.laws.specs.Choice.{either}
 use Rattle.laws.specs.Each.{length-each, getD-each, getD-other}
 use Rattle.common.specs.Limits.{width}
-use Rattle.common.specs.Bytes.{Bytes}
+use Rattle.common.specs.ByteLaws.{Bytes}
 use Rattle.ticks.specs.Legal.{LegalTick, LegalTicks, length-sounding, getD-sounding}
 use Rattle.ticks.specs.Legal.LegalTicks.{none, more}
 use Rattle.ticks.specs.declared.Command.{Command}
@@ -23,9 +23,14 @@ use Rattle.sequencer.specs.Songs.{freshSong, freshSounding, songWork, vo
 use Rattle.ticks.specs.Commands.{nothing}
 use Rattle.sequencer.specs.LegalFacts.{LegalSounding, LegalRun}
 use Rattle.sequencer.specs.Kept.{song-kept, tick-legal, fresh-legal}
-use Rattle.sequencer.specs.Runs.{soundingAfterTick, ticksFrom, songAfter, soundingAfter}
+use Rattle.sequencer.specs.Runs.{soundingAfterTick, ticksFrom, songAfter}
 use Rattle.sequencer.specs.declared.Time.{Time}
 use Rattle.sequencer.specs.declared.Song.{Song}
+
+-- the sounding samples after n ticks
+unfoldable pub soundingAfter : Module → ℕ → Song → List ℕ → List ℕ
+soundingAfter m zero s k = k
+soundingAfter m (suc n) s k = soundingAfter m n (tickOf m s k .song) (soundingAfterTick m s k)
 
 -- ---- the song's tempo after a tick is the tick's
 pub tick-tempo : (m : Module) (s : Song) (k : List ℕ) → tickOf m s k .song .time .tempo ≡ tickOf m s k .tick .tempo

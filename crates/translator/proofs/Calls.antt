@@ -24,7 +24,8 @@ use Rattle.sequencer.specs.Songs.{freshSong, freshSounding}
 use Rattle.sequencer.specs.RunLaws.{length-ticks}
 use Rattle.records.specs.Format.{versionPlace, recordsPlace, headBytes, bodyBytes, version, atFirst, streamHeader, encodeAfter}
 use Rattle.records.specs.Length.{stream-length}
-use Rattle.translator.specs.Translate.{freshTicks, streamOf, mostTicks, written, translateOf, mostBytes, Asked, recordsOf}
+use Rattle.translator.specs.Translate.{freshTicks, streamOf, mostTicks, written, translateOf}
+use Rattle.translator.specs.Passes.{mostBytes, Asked, recordsOf}
 use Rattle.translator.specs.Streams.{stream-bound, translated}
 use Rattle.translator.proofs.Over.{over-before}
 

@@ -26,10 +26,10 @@ use Rattle.sequencer.specs.Songs.{freshSong, tickOf}
 use Rattle.sequencer.specs.Runs.{ticksFrom}
 use Rattle.sequencer.specs.RunLaws.{run-tick, run-kept}
 use Rattle.records.specs.Format.{recordsPlace, version, atFirst, recordBytes, records}
-use Rattle.records.specs.Legal.{SpellableTick}
-use Rattle.records.specs.LegalLaws.{tick-spellable}
+use Rattle.records.specs.LegalLaws.{tick-spellable, SpellableTick}
 use Rattle.records.specs.Length.{stream-length}
-use Rattle.translator.specs.Translate.{freshTicks, streamOf, recordsOf, Translatable}
+use Rattle.translator.specs.Translate.{freshTicks, streamOf}
+use Rattle.translator.specs.Passes.{recordsOf, Translatable}
 use Rattle.translator.specs.Streams.{first-sounding, first-run, stream-bound}
 use Rattle.translator.proofs.Over.{over-rest}
 

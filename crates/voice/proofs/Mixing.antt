@@ -9,7 +9,7 @@ use lib.ListN.{length, getD, set, drop, replicate, length-replicate}
 use lib.Seq.{drop-at}
 use lib.IntN.{ℤ, pos}
 use Rattle.laws.specs.Each.{Parting, within-begin, part-again, part-end}
-use Rattle.common.specs.Bytes.{Bytes}
+use Rattle.common.specs.ByteLaws.{Bytes}
 use Rattle.common.specs.Limits.{width, sampleNumbers}
 use Rattle.ticks.specs.declared.Command.{Command}
 use Rattle.ticks.specs.Commands.{nothing}
@@ -21,10 +21,10 @@ use Rattle.reader.specs.File.{lent}
 use Rattle.reader.specs.Samples.{Sample, noExtent}
 use Rattle.reader.specs.Accept.{Inside}
 use Rattle.voice.specs.declared.Voice.{Voice}
-use Rattle.voice.specs.Voice.{sampleWith, samplesIn, arriveAt, started, toldOf}
+use Rattle.voice.specs.Voice.{arriveAt, started, toldOf}
 use Rattle.voice.specs.Frames.{frameNumbers, stepsOf, givesAt, sideOf, scaleOf, framesFrom, blank, soundingAt, voiceAt, heard, movedAt, mixed, moved}
 use Rattle.voice.specs.Adding.{numbersFrom, addedFrom, Room}
-use Rattle.voice.specs.Modules.{samples-bytes}
+use Rattle.voice.specs.Modules.{samples-bytes, samplesIn, sampleWith}
 use Rattle.voice.specs.Moved.{looping-at, sound-at}
 use Rattle.voice.specs.Range.{side-two, sides-legal, heard-range, room-before}
 use Rattle.voice.proofs.Sums.{no-frames, more-frames, each-cell}

@@ -21,7 +21,7 @@ use Rattle.reader.specs.Accept.{Inside}
 use Rattle.voice.specs.declared.Voice.{Voice}
 use Rattle.voice.specs.Voice.{freshVoice, fractions}
 use Rattle.voice.specs.Frames.{blank}
-use Rattle.voice.specs.Legal.{voiceEnd, legalIndex, voiceTests, legalVoice, freshTests, isFreshVoice, legalUsedVoice, legalVoiceAt, legalVoices}
+use Rattle.voice.specs.Legal.{voiceEnd, legalIndex, legalVoice, isFreshVoice, legalUsedVoice, legalVoiceAt, legalVoices}
 use Rattle.laws.specs.Ranges.{all, allFrom}
 use Rattle.common.specs.LimitFacts.{LegalPeriod, period-has, period-by}
 use Rattle.ticks.specs.Commands.{nothing}
@@ -84,7 +84,7 @@ index-by end v l =
 pub voice-has : (last end : ℕ) (v : Voice) → legalVoice last end v ≡ true → LegalVoice last end v
 unfolding legalVoice
 voice-has last end v e =
-    let h = all-at (voiceTests last end v) e in
+    let h = all-at _ e in
     record {
       sample = leb-true (v .sample) last (h 0);
       sound =
@@ -98,12 +98,12 @@ voice-has last end v e =
 
 pub voice-by : (last end : ℕ) (v : Voice) → LegalVoice last end v → legalVoice last end v ≡ true
 unfolding legalVoice Each
-voice-by last end v l = all-by (voiceTests last end v) (le-leb _ _ (l .sample), (le-leb _ _ (l .sound .volume), (period-by _ (l .sound .period), (index-by end v (l .sound), tt))))
+voice-by last end v l = all-by _ (le-leb _ _ (l .sample), (le-leb _ _ (l .sound .volume), (period-by _ (l .sound .period), (index-by end v (l .sound), tt))))
 
 fresh-has : (v : Voice) → isFreshVoice v ≡ true → v ≡ freshVoice
 unfolding isFreshVoice
 fresh-has v e =
-    let h = all-at (freshTests v) e in
+    let h = all-at _ e in
     let stopped : v .stopped ≡ true = h 5 in
     rw (eqb-true (v .sample) 0 (h 0), eqb-true (v .period) 0 (h 1), eqb-true (v .volume) 0 (h 2), eqb-true (v .index) 0 (h 3), eqb-true (v .fraction) 0 (h 4), stopped)
 

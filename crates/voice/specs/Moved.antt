@@ -18,7 +18,8 @@ use Rattle.reader.specs.declared.Extent.{Extent}
 use Rattle.reader.specs.File.{Module, sampleCount, channelCount}
 use Rattle.reader.specs.Samples.{Sample, noExtent}
 use Rattle.voice.specs.declared.Voice.{Voice}
-use Rattle.voice.specs.Voice.{samplesIn, toldOf}
+use Rattle.voice.specs.Voice.{toldOf}
+use Rattle.voice.specs.Modules.{samplesIn}
 use Rattle.voice.specs.Frames.{stepsOf, givesAt, sideOf, sumOf, scaleOf, frameNumbers, framesFrom, blank, soundingAt, voiceAt, heard, movedAt, mixed, moved}
 use Rattle.voice.specs.Legal.{voiceEnd}
 use Rattle.voice.specs.Kept.{told-sample, steps-sample, sound-told, sound-steps}

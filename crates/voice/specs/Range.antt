@@ -15,15 +15,23 @@ use lib.Signed.{mag}
 use borrow.Author.Tests.{ltb-true, ltb-false, leb-true, eq-eqb}
 use Rattle.laws.specs.Choice.{either}
 use Rattle.laws.specs.Signed.{sub-neg, mag-add, mag-mul}
-use Rattle.common.specs.Bytes.{Bytes}
+use Rattle.common.specs.ByteLaws.{Bytes}
 use Rattle.common.specs.Limits.{width, loudest}
 use Rattle.ticks.specs.declared.Command.{Command}
 use Rattle.ticks.specs.Commands.{nothing}
 use Rattle.reader.specs.Samples.{Sample}
 use Rattle.voice.specs.declared.Voice.{Voice}
-use Rattle.voice.specs.Voice.{silentOf, signedOf, readAt, givesOf, greatestGiven, half16}
+use Rattle.voice.specs.Voice.{silentOf, signedOf, readAt, givesOf}
 use Rattle.voice.specs.Frames.{stepsOf, sideOf, sumOf, doubledTo, scaleOf, framesFrom, blank, soundingAt, voiceAt, heard, mixed}
 use Rattle.voice.specs.Kept.{told-volume, steps-volume}
+
+-- a signed byte times a volume to 64 is at least -8,192 and below 8,192
+abbrev pub greatestGiven : ℕ
+greatestGiven = 8192
+
+-- a signed 16-bit number is at least -32,768 and below 32,768
+abbrev pub half16 : ℕ
+half16 = 32768
 
 -- ---- a voice
 pub signed-range : (b : ℕ) → b < 256 → mag (signedOf b) < 128
