@@ -54,9 +54,9 @@ module _ (keeping : Bool) (last c : ℕ) (room : c ≤ width) (samples others : 
   unfolding fit
   fit-same room w soundings long [] l = refl
   fit-same room w soundings long (t ∷ ts) (more l ls) =
-      ap (λ (n : ℕ). cond (leb (k .size w t) room) (suc n) 0)
-      (ap (λ (x : Machine). fit k (room - k .size w t) x ts) (tick-after w soundings long t l)
-      ∙ fit-same (room - k .size w t) (k′ .after w t) (soundingOf (t .commands)) (next-long w soundings long t l) ts ls)
+      let n = length (k′ .frames w t) in
+      rw (tick-frames w soundings long t l, tick-after w soundings long t l)
+      (ap (λ (i : ℕ). cond (leb n room) (suc i) 0) (fit-same (room - n) (k′ .after w t) (soundingOf (t .commands)) (next-long w soundings long t l) ts ls))
 
   rendered-same : (w : Machine) (soundings : List ℕ) → length soundings ≡ width → (ts : List Tick) (n : ℕ) → LegalTicks last soundings ts → rendered k w (take n ts) ≡ rendered k′ w (take n ts)
   unfolding rendered

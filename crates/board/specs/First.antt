@@ -18,8 +18,8 @@ use Rattle.reader.specs.Samples.{Sample}
 use Rattle.voice.specs.Frames.{frameNumbers}
 use Rattle.machine.specs.declared.Machine.{Machine}
 use Rattle.machine.specs.Lengths.{tickFrames, carriedAt, lengthAt}
-use Rattle.machine.specs.Machine.{freshMachine, begins, tickLength, tickSize, mechanism}
-use Rattle.machine.specs.Drift.{first-size, first-frames, first-after, old-rest}
+use Rattle.machine.specs.Machine.{freshMachine, begins, tickLength, mechanism}
+use Rattle.machine.specs.Drift.{sized, first-frames, first-after, old-rest}
 use Rattle.records.specs.Format.{versionPlace, firstVersion, keeps}
 use Rattle.records.specs.Examples.{emptyStream, noteStream, first-streams}
 use Rattle.board.specs.Board.{playedTicks, playedBy, playStreamOf}
@@ -33,7 +33,7 @@ module _ (keeping : Bool) (c : ℕ) (samples : ℕ → Sample) (tempo other : �
   fit-first : (room : ℕ) (ts : List Tick) → fit (mechanism keeping c samples) room (before tempo) ts ≡ fit (mechanism keeping c samples) room (before other) ts
   unfolding fit
   fit-first room [] = refl
-  fit-first room (t ∷ ts) = rw (first-size (freshMachine .voices) tempo other t, first-after (freshMachine .voices) tempo other t keeping c samples)
+  fit-first room (t ∷ ts) = rw (first-frames (freshMachine .voices) tempo other t c samples, first-after (freshMachine .voices) tempo other t keeping c samples)
 
   rendered-first : (ts : List Tick) → rendered (mechanism keeping c samples) (before tempo) ts ≡ rendered (mechanism keeping c samples) (before other) ts
   unfolding rendered
@@ -61,7 +61,7 @@ old-throughout c samples s e ts = rw (eq-eqb (byteAt s versionPlace) firstVersio
 -- the paper's two whole streams are accepted with any module, and their tick is played where its 960 frames fit
 pub first-played : (bytes : List ℕ) (out : List ℤ) → verdict (moduleOf bytes) .number ≡ 0 → frameNumbers * (tickFrames / 125) ≤ length out
     → (playStreamOf bytes (emptyStream 0x01) out .reply ≡ accepted 1) × (playStreamOf bytes (noteStream 0x01) out .reply ≡ accepted 1)
-unfolding playStreamOf refusing playedBy playedTicks fit tickSize tickLength begins carriedAt lengthAt freshMachine
+unfolding playStreamOf refusing playedBy playedTicks fit tickLength begins carriedAt lengthAt freshMachine
 first-played bytes out e h =
     let fits = le-leb (frameNumbers * (tickFrames / 125)) (length out) h in
-    (rw (eq-eqb (verdict (moduleOf bytes) .number) 0 e, first-streams .0, fits), rw (eq-eqb (verdict (moduleOf bytes) .number) 0 e, first-streams .1, fits))
+    (rw (eq-eqb (verdict (moduleOf bytes) .number) 0 e, first-streams .0, sized, fits), rw (eq-eqb (verdict (moduleOf bytes) .number) 0 e, first-streams .1, sized, fits))

@@ -17,7 +17,7 @@ use Rattle.voice.specs.Frames.{frameNumbers, mixed, moved}
 use Rattle.voice.specs.Moved.{length-mixed}
 use Rattle.machine.specs.declared.Machine.{Machine}
 use Rattle.machine.specs.Lengths.{tickFrames, carriedAt, lengthAt, keptAt}
-use Rattle.machine.specs.Machine.{begins, tickLength, tickSize, frames, after, mechanism}
+use Rattle.machine.specs.Machine.{begins, tickLength, frames, after, mechanism}
 use Rattle.machine.specs.Turn.{turn, turnOf}
 
 module _ (keeps : Bool) (c : ℕ) (samples : ℕ → Sample) (w : Machine) (t : Tick) (out : List ℤ) (b n : ℕ) (be : b ≡ carriedAt (w .tempo) (w .remainder) (t .tempo)) (ne : n ≡ lengthAt (t .tempo) b) where
@@ -27,14 +27,14 @@ module _ (keeps : Bool) (c : ℕ) (samples : ℕ → Sample) (w : Machine) (t : 
 
   -- it does not fit
   pub tick-full : length out < frameNumbers * n → turn true 0 w out ≡ turnOf (mechanism keeps c samples) w t out
-  unfolding turnOf tickSize
-  tick-full h = rw (← length-is, lt-ltb (length out) (frameNumbers * n) h)
+  unfolding turnOf frames
+  tick-full h = rw (← length-is, length-mixed c samples (w .voices) (t .commands) n, lt-ltb (length out) (frameNumbers * n) h)
 
   -- it does
   pub tick-played : frameNumbers * n ≤ length out → (vs : List Voice) (k : ℕ) (new : List ℤ) → vs ≡ moved c samples (w .voices) (t .commands) n → k ≡ keptAt keeps (t .tempo) b → new ≡ mixed c samples (w .voices) (t .commands) n ++ drop (frameNumbers * n) out
       → turn false (frameNumbers * n) (record { voices = vs; tempo = t .tempo; remainder = k }) new ≡ turnOf (mechanism keeps c samples) w t out
-  unfolding turnOf tickSize frames after begins
-  tick-played h vs k new q p z = rw (← length-is, ← be, le-ltb (length out) (frameNumbers * n) h, length-mixed c samples (w .voices) (t .commands) n, q, p, z)
+  unfolding turnOf frames after begins
+  tick-played h vs k new q p z = rw (← length-is, ← be, length-mixed c samples (w .voices) (t .commands) n, le-ltb (length out) (frameNumbers * n) h, q, p, z)
 
 -- a tick's frames are few
 pub frames-few : (tempo remainder : ℕ) → remainder ≤ greatestTempo → (tickFrames + remainder) / tempo ≤ tickFrames + greatestTempo

@@ -1,5 +1,5 @@
--- No drift (`no-drift`): n ticks in a row at one tempo have exactly the frames that their time says. No tick has more than 3,750 frames (`tick-most`).
--- And the tempo before the first tick does not matter.
+-- No drift (`no-drift`): n ticks in a row at one tempo have exactly the frames that their time says. No tick has more than 3,750 frames (`tick-most`),
+-- and a frame is two numbers (`sized`). And the tempo before the first tick does not matter.
 -- Assumes nothing.
 use Prim.Native.Nat.{ℕ, _*_, _/_, _≤_, _<_}
 use mathlib.Core.Path.{_≡_, refl, sym, ap, _∙_}
@@ -15,10 +15,16 @@ use Rattle.ticks.specs.Play.{rendered}
 use Rattle.reader.specs.Samples.{Sample}
 use Rattle.voice.specs.declared.Voice.{Voice}
 use Rattle.voice.specs.Frames.{frameNumbers}
+use Rattle.voice.specs.Moved.{length-mixed}
 use Rattle.machine.specs.declared.Machine.{Machine}
 use Rattle.machine.specs.Lengths.{tickFrames, carriedAt, lengthAt, keptAt}
 use Rattle.machine.specs.LengthLaws.{longest, carried-below, length-most, carried-same, carried-none, lengthsAt, lengths-add}
-use Rattle.machine.specs.Machine.{begins, tickLength, tickSize, frames, after, sized, mechanism}
+use Rattle.machine.specs.Machine.{begins, tickLength, frames, after, mechanism}
+
+-- a tick has two numbers for each of its frames
+pub sized : (channels : ℕ) (samples : ℕ → Sample) (w : Machine) (t : Tick) → length (frames channels samples w t) ≡ frameNumbers * tickLength w t
+unfolding frames
+sized channels samples w t = length-mixed channels samples (w .voices) (t .commands) (tickLength w t)
 
 -- no tick has more than 3,750 frames
 pub tick-most : (w : Machine) (t : Tick) → w .remainder < w .tempo → leastTempo ≤ t .tempo → tickLength w t ≤ longest
@@ -32,8 +38,8 @@ pub data AtTempo (tempo : ℕ) : List Tick → Type 0 where
 
 module _ (c : ℕ) (samples : ℕ → Sample) (tempo : ℕ) where
   module _ (w : Machine) (t : Tick) (r : ℕ) (a : t .tempo ≡ tempo) (e : carriedAt (w .tempo) (w .remainder) tempo ≡ r) where
-    size-at : tickSize w t ≡ frameNumbers * lengthAt tempo r
-    unfolding tickSize tickLength begins
+    size-at : frameNumbers * tickLength w t ≡ frameNumbers * lengthAt tempo r
+    unfolding tickLength begins
     size-at = rw (a, e)
 
     kept-at : carriedAt (after true c samples w t .tempo) (after true c samples w t .remainder) tempo ≡ keptAt true tempo r
@@ -67,10 +73,6 @@ module _ (vs : List Voice) (before other : ℕ) (t : Tick) where
   length-alike : tickLength (from vs before) t ≡ tickLength (from vs other) t
   unfolding tickLength
   length-alike = rw begins-alike
-
-  pub first-size : tickSize (from vs before) t ≡ tickSize (from vs other) t
-  unfolding tickSize
-  first-size = rw length-alike
 
   pub first-frames : (c : ℕ) (samples : ℕ → Sample) → frames c samples (from vs before) t ≡ frames c samples (from vs other) t
   unfolding frames

@@ -2,12 +2,10 @@
 -- How long a tick is, its frames, and the machine after it.
 -- It takes the number of channels and the samples by their number, and never the module.
 -- Assumes nothing.
-use Prim.Native.Nat.{ℕ, _*_}
-use mathlib.Core.Path.{_≡_}
+use Prim.Native.Nat.{ℕ}
 use mathlib.Core.Bool.{Bool, true}
 use mathlib.Core.List.{List}
 use lib.IntN.{ℤ}
-use lib.ListN.{length}
 use Rattle.laws.specs.Ranges.{each}
 use Rattle.common.specs.Limits.{width}
 use Rattle.ticks.specs.declared.Tick.{Tick}
@@ -15,8 +13,7 @@ use Rattle.ticks.specs.Play.{Mechanism}
 use Rattle.reader.specs.File.{Module, channelCount}
 use Rattle.reader.specs.Samples.{Sample}
 use Rattle.voice.specs.Voice.{freshVoice, samplesOf}
-use Rattle.voice.specs.Frames.{frameNumbers, mixed, moved}
-use Rattle.voice.specs.Moved.{length-mixed}
+use Rattle.voice.specs.Frames.{mixed, moved}
 use Rattle.machine.specs.declared.Machine.{Machine}
 use Rattle.machine.specs.Lengths.{carriedAt, lengthAt, keptAt}
 
@@ -33,10 +30,6 @@ begins w t = carriedAt (w .tempo) (w .remainder) (t .tempo)
 unfoldable pub tickLength : Machine → Tick → ℕ
 tickLength w t = lengthAt (t .tempo) (begins w t)
 
--- how many numbers it takes
-unfoldable pub tickSize : Machine → Tick → ℕ
-tickSize w t = frameNumbers * tickLength w t
-
 -- its frames
 unfoldable pub frames : ℕ → (ℕ → Sample) → Machine → Tick → List ℤ
 frames channels samples w t = mixed channels samples (w .voices) (t .commands) (tickLength w t)
@@ -50,14 +43,9 @@ after keeps channels samples w t =
       remainder = keptAt keeps (t .tempo) (begins w t);
     }
 
--- a tick has as many numbers as its size says
-pub sized : (channels : ℕ) (samples : ℕ → Sample) (w : Machine) (t : Tick) → length (frames channels samples w t) ≡ tickSize w t
-unfolding frames tickSize
-sized channels samples w t = length-mixed channels samples (w .voices) (t .commands) (tickLength w t)
-
--- so that this is a machine for ticks
+-- how it plays ticks
 abbrev pub mechanism : Bool → ℕ → (ℕ → Sample) → Mechanism ℤ Machine Tick
-mechanism keeps channels samples = record { size = tickSize; frames = frames channels samples; after = after keeps channels samples; sized = sized channels samples }
+mechanism keeps channels samples = record { frames = frames channels samples; after = after keeps channels samples }
 
 -- how a module's ticks are played
 abbrev pub mechanismOf : Module → Mechanism ℤ Machine Tick

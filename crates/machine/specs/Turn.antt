@@ -27,4 +27,4 @@ turned r out = turn (r .full) (r .size) (r .machine) out
 
 -- where the tick does not fit nothing moves; otherwise its numbers go into the front of the buffer, whose rest stays
 unfoldable pub turnOf : {A W T : Type 0} → Mechanism A W T → W → T → List A → Turned A W
-turnOf m w t out = cond (ltb (length out) (m .size w t)) (turn true 0 w out) (turn false (m .size w t) (m .after w t) (over (m .frames w t) out))
+turnOf m w t out = cond (ltb (length out) (length (m .frames w t))) (turn true 0 w out) (turn false (length (m .frames w t)) (m .after w t) (over (m .frames w t) out))

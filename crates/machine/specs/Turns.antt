@@ -16,33 +16,33 @@ use Rattle.machine.specs.Turn.{Turned, turn, turnOf}
 
 -- ---- what a turn says
 record Full {A W S : Type 0} (m : Mechanism A W S) (w : W) (t : S) (out : List A) (r : Turned A W) : Type 0 where
-  pub small : length out < m .size w t
+  pub small : length out < length (m .frames w t)
   pub cells : r .out ≡ out
 
 record Fits {A W S : Type 0} (m : Mechanism A W S) (w : W) (t : S) (out : List A) (r : Turned A W) : Type 0 where
-  pub room : m .size w t ≤ length out
-  pub size : r .size ≡ m .size w t
+  pub room : length (m .frames w t) ≤ length out
+  pub size : r .size ≡ length (m .frames w t)
   pub machine : r .machine ≡ m .after w t
   pub cells : r .out ≡ over (m .frames w t) out
 
 module _ {A W S : Type 0} (m : Mechanism A W S) (w : W) (t : S) (out : List A) (r : Turned A W) (e : r ≡ turnOf m w t out) where
   turn-full : r .full ≡ true → Full m w t out r
   unfolding turnOf
-  turn-full h = go (ltb (length out) (m .size w t)) refl e
+  turn-full h = go (ltb (length out) (length (m .frames w t))) refl e
     where
-      go : (b : Bool) → ltb (length out) (m .size w t) ≡ b → r ≡ cond b (turn true 0 w out) (turn false (m .size w t) (m .after w t) (over (m .frames w t) out)) → Full m w t out r
-      go true l q = record { small = ltb-true (length out) (m .size w t) l; cells = ap (λ (x : Turned A W). x .out) q }
+      go : (b : Bool) → ltb (length out) (length (m .frames w t)) ≡ b → r ≡ cond b (turn true 0 w out) (turn false (length (m .frames w t)) (m .after w t) (over (m .frames w t) out)) → Full m w t out r
+      go true l q = record { small = ltb-true (length out) (length (m .frames w t)) l; cells = ap (λ (x : Turned A W). x .out) q }
       go false l q = absurd (subst T (sym h ∙ ap (λ (x : Turned A W). x .full) q) tt)
 
   turn-fits : r .full ≡ false → Fits m w t out r
   unfolding turnOf
-  turn-fits h = go (ltb (length out) (m .size w t)) refl e
+  turn-fits h = go (ltb (length out) (length (m .frames w t))) refl e
     where
-      go : (b : Bool) → ltb (length out) (m .size w t) ≡ b → r ≡ cond b (turn true 0 w out) (turn false (m .size w t) (m .after w t) (over (m .frames w t) out)) → Fits m w t out r
+      go : (b : Bool) → ltb (length out) (length (m .frames w t)) ≡ b → r ≡ cond b (turn true 0 w out) (turn false (length (m .frames w t)) (m .after w t) (over (m .frames w t) out)) → Fits m w t out r
       go true l q = absurd (subst T (sym (ap (λ (x : Turned A W). x .full) q) ∙ h) tt)
       go false l q =
           record {
-            room = ltb-false (length out) (m .size w t) l;
+            room = ltb-false (length out) (length (m .frames w t)) l;
             size = ap (λ (x : Turned A W). x .size) q;
             machine = ap (λ (x : Turned A W). x .machine) q;
             cells = ap (λ (x : Turned A W). x .out) q;
@@ -61,7 +61,7 @@ module _ {A W S : Type 0} (m : Mechanism A W S) (w₀ : W) (ts₀ : List S) (out
   pub playing-stops : r .full ≡ true → Played m w₀ ts₀ out₀ w (putMid at (length out - at) out (r .out)) i
   playing-stops h =
       let f = turn-full m w t (take (length out - at) (drop at out)) r q h in
-      rw (stops-same h) (playing-full m w₀ ts₀ out₀ w ts out at i p t rest e (m .size w t) refl (rw (tail-long at out) at (f .small)))
+      rw (stops-same h) (playing-full m w₀ ts₀ out₀ w ts out at i p t rest e (length (m .frames w t)) refl (rw (tail-long at out) at (f .small)))
 
   -- it fits
   pub playing-turns : r .full ≡ false → Playing m w₀ ts₀ out₀ (r .machine) rest (putMid at (length out - at) out (r .out)) (at + r .size) (i + 1)

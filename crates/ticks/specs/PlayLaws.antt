@@ -18,10 +18,10 @@ module _ {A W T : Type 0} (m : Mechanism A W T) where
   unfolding rendered fit
   fit-fits room w [] = zero-le
   fit-fits room w (t ∷ ts) =
-      let k = fit m (room - m .size w t) (m .after w t) ts in
+      let k = fit m (room - length (m .frames w t)) (m .after w t) ts in
       let rest = rendered m (m .after w t) (take k ts) in
-      either (λ (n : ℕ). length (rendered m w (take n (t ∷ ts))) ≤ room) (leb (m .size w t) room) (suc k) 0
-      (λ e. omega (arith, leb-true (m .size w t) room e, fit-fits (room - m .size w t) (m .after w t) ts, m .sized w t, length-append (m .frames w t) rest)) (λ _. zero-le)
+      either (λ (n : ℕ). length (rendered m w (take n (t ∷ ts))) ≤ room) (leb (length (m .frames w t)) room) (suc k) 0
+      (λ e. omega (arith, leb-true (length (m .frames w t)) room e, fit-fits (room - length (m .frames w t)) (m .after w t) ts, length-append (m .frames w t) rest)) (λ _. zero-le)
 
   -- and no larger number of the first ticks does
   pub fit-most : (room : ℕ) (w : W) (ts : List T) (k : ℕ) → k ≤ length ts → length (rendered m w (take k ts)) ≤ room → k ≤ fit m room w ts
@@ -29,25 +29,25 @@ module _ {A W T : Type 0} (m : Mechanism A W T) where
   fit-most room w ts zero h p = zero-le
   fit-most room w [] (suc k) h p = omega arith
   fit-most room w (t ∷ ts) (suc k) h p =
-      let l : length (rendered m w (take (suc k) (t ∷ ts))) ≡ m .size w t + length (rendered m (m .after w t) (take k ts)) = length-append (m .frames w t) (rendered m (m .after w t) (take k ts)) ∙ ap (λ (n : ℕ). n + length (rendered m (m .after w t) (take k ts))) (m .sized w t) in
-      rw (le-leb (m .size w t) room (omega arith)) (suc-le-suc (fit-most (room - m .size w t) (m .after w t) ts k (omega arith) (omega arith)))
+      let l : length (rendered m w (take (suc k) (t ∷ ts))) ≡ length (m .frames w t) + length (rendered m (m .after w t) (take k ts)) = length-append (m .frames w t) (rendered m (m .after w t) (take k ts)) in
+      rw (le-leb (length (m .frames w t)) room (omega arith)) (suc-le-suc (fit-most (room - length (m .frames w t)) (m .after w t) ts k (omega arith) (omega arith)))
 
   pub fit-le : (room : ℕ) (w : W) (ts : List T) → fit m room w ts ≤ length ts
   unfolding fit
   fit-le room w [] = zero-le
-  fit-le room w (t ∷ ts) = either (λ (k : ℕ). k ≤ suc (length ts)) (leb (m .size w t) room) _ _ (λ _. suc-le-suc (fit-le (room - m .size w t) (m .after w t) ts)) (λ _. zero-le)
+  fit-le room w (t ∷ ts) = either (λ (k : ℕ). k ≤ suc (length ts)) (leb (length (m .frames w t)) room) _ _ (λ _. suc-le-suc (fit-le (room - length (m .frames w t)) (m .after w t) ts)) (λ _. zero-le)
 
   pub fit-none : (room : ℕ) (w : W) → fit m room w [] ≡ 0
   unfolding fit
   fit-none room w = refl
 
-  pub fit-more : (room : ℕ) (w : W) (t : T) (ts : List T) → m .size w t ≤ room → fit m room w (t ∷ ts) ≡ suc (fit m (room - m .size w t) (m .after w t) ts)
+  pub fit-more : (room : ℕ) (w : W) (t : T) (ts : List T) → length (m .frames w t) ≤ room → fit m room w (t ∷ ts) ≡ suc (fit m (room - length (m .frames w t)) (m .after w t) ts)
   unfolding fit
-  fit-more room w t ts h = rw (le-leb (m .size w t) room h)
+  fit-more room w t ts h = rw (le-leb (length (m .frames w t)) room h)
 
-  pub fit-full : (room : ℕ) (w : W) (t : T) (ts : List T) → room < m .size w t → fit m room w (t ∷ ts) ≡ 0
+  pub fit-full : (room : ℕ) (w : W) (t : T) (ts : List T) → room < length (m .frames w t) → fit m room w (t ∷ ts) ≡ 0
   unfolding fit
-  fit-full room w t ts h = rw (lt-leb (m .size w t) room h)
+  fit-full room w t ts h = rw (lt-leb (length (m .frames w t)) room h)
 
   -- a list of ticks, and then another
   pub after-append : (w : W) (ss ts : List T) → afterAll m w (ss ++ ts) ≡ afterAll m (afterAll m w ss) ts
@@ -65,28 +65,28 @@ module _ {A W T : Type 0} (m : Mechanism A W T) where
   play-none w buffer = refl
 
   -- a tick that fits is played, and the next go into the rest
-  pub play-more : (w : W) (t : T) (ts : List T) (buffer : List A) → m .size w t ≤ length buffer → playOut m w (t ∷ ts) buffer ≡ m .frames w t ++ playOut m (m .after w t) ts (drop (m .size w t) buffer)
+  pub play-more : (w : W) (t : T) (ts : List T) (buffer : List A) → length (m .frames w t) ≤ length buffer → playOut m w (t ∷ ts) buffer ≡ m .frames w t ++ playOut m (m .after w t) ts (drop (length (m .frames w t)) buffer)
   unfolding playOut rendered fit
   play-more w t ts buffer h =
-      let n : length (drop (m .size w t) buffer) ≡ length buffer - m .size w t = length-drop (m .size w t) buffer in
-      let rest = rendered m (m .after w t) (take (fit m (length buffer - m .size w t) (m .after w t) ts) ts) in
-      let d : drop (length (m .frames w t ++ rest)) buffer ≡ drop (length rest) (drop (m .size w t) buffer) =
-      ap (λ (k : ℕ). drop k buffer) (length-append (m .frames w t) rest ∙ ap (λ (k : ℕ). k + length rest) (m .sized w t)) ∙ sym (drop-drop (length rest) (m .size w t) buffer) in
-      rw (le-leb (m .size w t) (length buffer) h, n, d, append-assoc)
+      let n : length (drop (length (m .frames w t)) buffer) ≡ length buffer - length (m .frames w t) = length-drop (length (m .frames w t)) buffer in
+      let rest = rendered m (m .after w t) (take (fit m (length buffer - length (m .frames w t)) (m .after w t) ts) ts) in
+      let d : drop (length (m .frames w t ++ rest)) buffer ≡ drop (length rest) (drop (length (m .frames w t)) buffer) =
+      ap (λ (k : ℕ). drop k buffer) (length-append (m .frames w t) rest) ∙ sym (drop-drop (length rest) (length (m .frames w t)) buffer) in
+      rw (le-leb (length (m .frames w t)) (length buffer) h, n, d, append-assoc)
 
   -- one that does not ends the play
-  pub play-full : (w : W) (t : T) (ts : List T) (buffer : List A) → length buffer < m .size w t → playOut m w (t ∷ ts) buffer ≡ buffer
+  pub play-full : (w : W) (t : T) (ts : List T) (buffer : List A) → length buffer < length (m .frames w t) → playOut m w (t ∷ ts) buffer ≡ buffer
   unfolding playOut rendered fit
-  play-full w t ts buffer h = rw (lt-leb (m .size w t) (length buffer) h)
+  play-full w t ts buffer h = rw (lt-leb (length (m .frames w t)) (length buffer) h)
 
   -- ---- playing a list of ticks that all fit, and then another, is playing both
   pub fit-append : (room : ℕ) (w : W) (ss ts : List T) → length (rendered m w ss) ≤ room → fit m room w (ss ++ ts) ≡ length ss + fit m (room - length (rendered m w ss)) (afterAll m w ss) ts
   unfolding rendered fit afterAll
   fit-append room w [] ts h = let z : room - 0 ≡ room = omega arith in rw (z, zero-add)
   fit-append room w (s ∷ ss) ts h =
-      let l : length (m .frames w s ++ rendered m (m .after w s) ss) ≡ m .size w s + length (rendered m (m .after w s) ss) = length-append (m .frames w s) (rendered m (m .after w s) ss) ∙ ap (λ (n : ℕ). n + length (rendered m (m .after w s) ss)) (m .sized w s) in
-      let r : room - length (m .frames w s ++ rendered m (m .after w s) ss) ≡ room - m .size w s - length (rendered m (m .after w s) ss) = omega arith in
-      rw (le-leb (m .size w s) room (omega arith), r, suc-add) (ap suc (fit-append (room - m .size w s) (m .after w s) ss ts (omega arith)))
+      let l : length (m .frames w s ++ rendered m (m .after w s) ss) ≡ length (m .frames w s) + length (rendered m (m .after w s) ss) = length-append (m .frames w s) (rendered m (m .after w s) ss) in
+      let r : room - length (m .frames w s ++ rendered m (m .after w s) ss) ≡ room - length (m .frames w s) - length (rendered m (m .after w s) ss) = omega arith in
+      rw (le-leb (length (m .frames w s)) room (omega arith), r, suc-add) (ap suc (fit-append (room - length (m .frames w s)) (m .after w s) ss ts (omega arith)))
 
   pub play-append : (w : W) (ss ts : List T) (buffer : List A) → length (rendered m w ss) ≤ length buffer → playOut m w (ss ++ ts) buffer ≡ rendered m w ss ++ playOut m (afterAll m w ss) ts (drop (length (rendered m w ss)) buffer)
   unfolding playOut
