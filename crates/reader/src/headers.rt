@@ -70,10 +70,14 @@ pub fn first_bad_entry(layout: Layout, file: &[u8]) -> usize
     ENTRIES
 }
 
-fn larger(a: u8, b: u8) -> u8
-    ensures { λ r. ⌜ r ≡ max a b ⌝ }
+// The larger of a number and entry i of the table.
+fn larger(layout: Layout, file: &[u8], top: u8, i: usize) -> u8
+    requires { ⌜ LegalLayout layout ⌝ }
+    requires { ⌜ (layout .patterns ≤ length (now file)) × (i < entries) ⌝ }
+    ensures { λ r. ⌜ r ≡ max top (entryOf (lent layout (now (file .entry))) i) ⌝ }
 {
-    if a < b { b } else { a }
+    let entry = file[layout.table + i];
+    if top < entry { entry } else { top }
 }
 
 fn largest_entry(layout: Layout, file: &[u8]) -> u8
@@ -84,7 +88,7 @@ fn largest_entry(layout: Layout, file: &[u8]) -> u8
     let mut top: u8 = 0;
     let mut i = 0;
     while i < ENTRIES {
-        top = larger(top, file[layout.table + i]);
+        top = larger(layout, file, top, i);
         i += 1;
     }
     top

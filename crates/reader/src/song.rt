@@ -2,7 +2,7 @@
 ghost use mathlib.Core.Path.{_≡_};
 ghost use Prim.Native.Nat.{_+_, _-_, _<_, _^_};
 ghost use Rattle.reader.specs.File.{lent, songLength, headerVolume};
-ghost use Rattle.reader.specs.Judge.{verdict};
+ghost use Rattle.reader.specs.Judge.{numberAt, periodAt, verdict};
 ghost use Rattle.common.specs.ByteLaws.{Bytes};
 ghost use Rattle.reader.specs.Cells.{effectOf, cellFrom, cellAt};
 ghost use Rattle.reader.specs.Layouts.{LegalLayout};
@@ -33,17 +33,33 @@ fn effect_code(b2: u32, b3: u32) -> u32
     if low == 14 { 224 + b3 / 16 } else { low }
 }
 
+// The sample number of the cell at a place.
+fn number_at(file: &[u8], at: usize) -> u32
+    requires { ⌜ at + 3 < 2 ^ 63 ⌝ }
+    ensures { λ r. ⌜ r ≡ numberAt (now (file .entry)) at ⌝ }
+{
+    common::bytes::byte(file, at) / 16 * 16 + common::bytes::byte(file, at + 2) / 16
+}
+
+// Its period.
+fn period_at(file: &[u8], at: usize) -> u32
+    requires { ⌜ at + 3 < 2 ^ 63 ⌝ }
+    ensures { λ r. ⌜ r ≡ periodAt (now (file .entry)) at ⌝ }
+{
+    common::bytes::byte(file, at) % 16 * 256 + common::bytes::byte(file, at + 1)
+}
+
 fn cell_from(file: &[u8], at: usize) -> Cell
     requires { ⌜ at + 3 < 2 ^ 63 ⌝ }
     ensures { λ r. ⌜ r ≡ cellFrom (now (file .entry)) at ⌝ }
 {
-    let b0 = common::bytes::byte(file, at);
-    let b1 = common::bytes::byte(file, at + 1);
+    let sample = number_at(file, at);
+    let period = period_at(file, at);
     let b2 = common::bytes::byte(file, at + 2);
     let b3 = common::bytes::byte(file, at + 3);
     Cell {
-        sample: b0 / 16 * 16 + b2 / 16,
-        period: b0 % 16 * 256 + b1,
+        sample,
+        period,
         effect: effect_code(b2, b3),
         param: b3,
     }

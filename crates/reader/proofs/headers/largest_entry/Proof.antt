@@ -21,8 +21,6 @@ largest-entry-spec =
     Inv-loop
     μ-loop
     (λ c. search (searches, needs))
-    (λ c. search needs)
-    (λ c. search needs)
     (λ c κs. search needs)
     (λ c. search needs)
     (λ c. search needs)

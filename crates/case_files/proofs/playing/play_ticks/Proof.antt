@@ -1,17 +1,17 @@
--- The loop ends: the number of arguments left falls.
+-- The loop ends: the number of ticks left falls.
 use borrow.Author.Needs.{needs}
 use Prim.Native.Nat.{_-_}
-use Rattle.judge_cases.proofs.main.Statement.{statement}
-use Rattle.judge_cases.proofs.main.Tie as tie
+use Rattle.case_files.proofs.playing.play_ticks.Statement.{statement}
+use Rattle.case_files.proofs.playing.play_ticks.Tie as tie
 
 abbrev Inv-loop : tie.InvT-loop
-Inv-loop n k₀ k = Unit {0}
+Inv-loop file state₀ i₀ state i = Unit {0}
 
 abbrev μ-loop : tie.MeasureT-loop
-μ-loop n k₀ k = n - k
+μ-loop file state₀ i₀ state i = 48 - i
 
-pub main-spec : {M : Type 1} → statement M
-main-spec =
+pub play-ticks-spec : {M : Type 1} → statement M
+play-ticks-spec =
     tie.close
     (tie.spec
     Inv-loop

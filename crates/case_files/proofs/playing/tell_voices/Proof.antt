@@ -2,8 +2,8 @@
 use Rattle.common.specs.Limits.{width}
 use Prim.Native.Nat.{_-_, _≤_}
 use borrow.Author.Needs.{needs}
-use Rattle.play_cases.proofs.tell_voices.Statement.{statement}
-use Rattle.play_cases.proofs.tell_voices.Tie as tie
+use Rattle.case_files.proofs.playing.tell_voices.Statement.{statement}
+use Rattle.case_files.proofs.playing.tell_voices.Tie as tie
 
 abbrev Inv-loop : tie.InvT-loop
 Inv-loop n voices i₀ i = n ≤ width
