@@ -3,5 +3,5 @@
 use Prim.Native.Nat.{ℕ}
 
 -- major times 1,000,000, plus minor times 1,000, plus patch: 0.2.0
-abbrev pub version : ℕ
-version = 2000
+abbrev pub libraryVersion : ℕ
+libraryVersion = 2000

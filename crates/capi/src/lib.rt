@@ -9,7 +9,7 @@ ghost use Rattle.cells.specs.Cells.{stateCells, stateOf};
 ghost use Rattle.translator.specs.Translate.{translateOf};
 ghost use Rattle.board.specs.Board.{playStreamOf};
 ghost use Rattle.capi.specs.Answers.{answerCells, cellsAfter};
-ghost use Rattle.capi.specs.Version.{version};
+ghost use Rattle.capi.specs.Version.{libraryVersion};
 use cells::CELLS;
 use common::Answer;
 use player::Reply;
@@ -42,7 +42,7 @@ fn put_reply(reply: Reply, state: &mut [u32; CELLS], answer: &mut [u64; ANSWER_C
 // The version of the library that is linked.
 #[no_mangle]
 pub extern "C" fn lampthistle_version() -> u32
-    ensures { λ r. ⌜ r ≡ version ⌝ }
+    ensures { λ r. ⌜ r ≡ libraryVersion ⌝ }
 {
     VERSION
 }
