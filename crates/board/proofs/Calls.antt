@@ -1,14 +1,15 @@
 -- What the call goes by: 1 to 9, then 21 to 23, then the play.
 -- Assumes nothing.
 use Prim.Native.Nat.{ℕ}
-use mathlib.Core.Path.{_≡_, sym, ap, subst, _∙_}
+use mathlib.Core.Path.{_≡_, ap, subst, _∙_}
 use mathlib.Core.List.{List}
 use lib.IntN.{ℤ}
-use borrow.Author.Tests.{eq-eqb, ne-eqb}
-use Rattle.common.specs.Answers.{refused, outcome, refusing}
+use Rattle.common.specs.Answers.{refused, outcome}
+use Rattle.common.specs.AnswerLaws.{no-line}
 use Rattle.common.specs.declared.Answer.{Answer}
 use Rattle.reader.specs.File.{lent, fourChannels, moduleOf}
 use Rattle.reader.specs.Judge.{verdict}
+use Rattle.reader.specs.Accept.{accepted-by, module-given, module-passed}
 use Rattle.reader.specs.declared.Layout.{Layout}
 use Rattle.voice.specs.Voice.{samplesOf}
 use Rattle.records.specs.Format.{keeps, Decoded, refusal, ticks, decode}
@@ -20,13 +21,13 @@ module _ (layout : Layout) (bytes s : List ℕ) (out : List ℤ) (v : Answer) (e
   here = subst (λ (l : Layout). v ≡ verdict (lent l bytes)) le e
 
   pub module-refused : (a : Answer) → (v .number ≡ 0 → ⊥) → a ≡ refused (v .number) (v .place) → outcome a out ≡ playStreamOf bytes s out
-  unfolding playStreamOf refusing
-  module-refused a h q = rw (← here, ne-eqb (v .number) 0 h, q)
+  unfolding playStreamOf
+  module-refused a h q = module-given _ _ (moduleOf bytes) _ (outcome a out) (λ z. h (ap (λ (x : Answer). x .number) here ∙ z)) (rw (q, here))
 
   module _ (z : v .number ≡ 0) where
     pub stream-played : (a : Answer) (out′ : List ℤ) → outcome a out′ ≡ boardOf (layout .samples) (layout .channels) (samplesOf (lent layout bytes)) s out → outcome a out′ ≡ playStreamOf bytes s out
-    unfolding playStreamOf refusing
-    stream-played a out′ p = rw (← here, eq-eqb (v .number) 0 z) (rw le at p)
+    unfolding playStreamOf
+    stream-played a out′ p = module-passed _ _ (moduleOf bytes) _ (outcome a out′) (accepted-by (moduleOf bytes) v here z) (no-line _ _ (outcome a out′) (rw le at p))
 
     pub stream-refused : (last : ℕ) (u a : Answer) → last ≡ layout .samples → u ≡ answerOf (decode last (layout .channels) s) → (u .number ≡ 0 → ⊥) → a ≡ refused (u .number) (u .place) → outcome a out ≡ playStreamOf bytes s out
     unfolding playedBy answerOf

@@ -7,15 +7,15 @@ use mathlib.Core.List.{List, []}
 use native.Mathlib.Omega.{arith}
 use lib.Dec.{eqb, ltb}
 use lib.IntN.{ℤ}
-use borrow.Author.Tests.{eq-eqb, ne-eqb}
 use Rattle.laws.specs.Ranges.{all, allFrom}
 use Rattle.reader.specs.Layouts.{LegalLayout}
 use Rattle.common.specs.Answers.{Line, refused, accepted, outcome, refusing}
+use Rattle.common.specs.AnswerLaws.{no-line, line-given, line-passed}
 use Rattle.common.specs.ByteLaws.{Bytes}
 use Rattle.common.specs.declared.Answer.{Answer}
 use Rattle.reader.specs.File.{Module, lent, fourChannels, moduleOf, songLength}
 use Rattle.reader.specs.Judge.{verdict}
-use Rattle.reader.specs.Accept.{verdict-answer}
+use Rattle.reader.specs.Accept.{verdict-answer, accepted-by, module-given, module-passed}
 use Rattle.reader.specs.Samples.{extentsOf}
 use Rattle.reader.specs.declared.Extent.{Extent}
 use Rattle.reader.specs.declared.Layout.{Layout}
@@ -41,25 +41,22 @@ module _ (layout : Layout) (bytes : List ℕ) (s : State) (v : Answer) (ve : v �
   m = lent layout bytes
 
   pub judged-module : (v .number ≡ 0 → ⊥) → Judged (lent layout bytes) s v
-  unfolding refusing
-  judged-module h = record { is = ve ∙ (verdict-answer m ∙ rw (ne-eqb (verdict m .number) 0 (λ q. h (ap (λ (a : Answer). a .number) ve ∙ q)))); playable = λ e. never-zero (v .number) h e }
+  judged-module h = record { is = module-given refused (accepted 0) m _ v (λ q. h (ap (λ (a : Answer). a .number) ve ∙ q)) (ve ∙ verdict-answer m); playable = λ e. never-zero (v .number) h e }
 
   module _ (z : v .number ≡ 0) (l : Bool) (le : l ≡ legalState (lent layout bytes) s) (r : Answer) where
     zero : verdict m .number ≡ 0
-    zero = ap (λ (x : Answer). x .number) (sym ve) ∙ z
+    zero = accepted-by m v ve z
 
     pub judged-legal : LegalLayout layout → Bytes bytes → l ≡ true → r ≡ accepted 0 → Judged (lent layout bytes) s r
-    unfolding refusing
     judged-legal y b h e =
         record {
-          is = rw (eq-eqb (verdict m .number) 0 zero, ← le, h) e;
+          is = module-passed refused (accepted 0) m _ r zero (line-passed refused (accepted 0) 14 0 _ [] r (ap not (sym le ∙ h)) (no-line refused (accepted 0) r e));
           playable = λ _. record { layout = y; judged = zero; bytes = b; legal = sym le ∙ h };
         }
 
     pub judged-illegal : l ≡ false → r ≡ refused 14 0 → Judged (lent layout bytes) s r
-    unfolding refusing
     judged-illegal h e =
-        record { is = rw (eq-eqb (verdict m .number) 0 zero, ← le, h) e; playable = λ q. never-zero 14 (λ x. omega arith) (ap (λ (a : Answer). a .number) (sym e) ∙ q) }
+        record { is = module-passed refused (accepted 0) m _ r zero (line-given refused (accepted 0) 14 0 _ [] r (ap not (sym le ∙ h)) e); playable = λ q. never-zero 14 (λ x. omega arith) (ap (λ (a : Answer). a .number) (sym e) ∙ q) }
 
 -- ---- a call's answer by the verdict, for the layout of every module
 module _ (layout : Layout) (bytes : List ℕ) (s : State) (v : Answer) (j : Judged (lent layout bytes) s v) (le : layout ≡ fourChannels) where
@@ -84,8 +81,7 @@ module _ (layout : Layout) (bytes : List ℕ) (s : State) (v : Answer) (j : Judg
         by true e true q i = never-zero (v .number) h (ap (λ (x : Answer). x .number) i)
 
     pub passed-state : v .number ≡ 0 → (x : A) → x ≡ refusing refuse work more → x ≡ refusing refuse work (stateLines (moduleOf bytes) s more)
-    unfolding refusing
-    passed-state z x e = rw (eq-eqb (verdict (moduleOf bytes) .number) 0 (here .playable z .judged), here .playable z .legal) e
+    passed-state z x e = module-passed refuse work (moduleOf bytes) _ x (here .playable z .judged) (line-passed refuse work 14 0 _ more x (ap not (here .playable z .legal)) e)
 
   -- a refusal leaves the state
   pub refused-reply : (work : Reply) (more : List Line) (r : Reply) → (v .number ≡ 0 → ⊥) → r ≡ reply (refused (v .number) (v .place)) s → r ≡ refusing (λ number place. reply (refused number place) s) work (stateLines (moduleOf bytes) s more)

@@ -3,24 +3,25 @@
 use Prim.Native.Nat.{ℕ, zero, suc, _+_, _-_, _*_, _≤_, _<_}
 use mathlib.Core.Path.{_≡_, refl, sym, _∙_, ap, subst}
 use mathlib.Core.Bool.{Bool, true, false, cond}
+use mathlib.Core.List.{List, _∷_}
 use native.Mathlib.Omega.{arith}
 use native.Mathlib.Nat.{mul-le-mul-left}
 use lib.Dec.{ltb, eqb}
 use lib.ListN.{length}
-use borrow.Author.Tests.{lt-ltb, ltb-true, ltb-false, eqb-false, not-false}
+use borrow.Author.Tests.{lt-ltb, ltb-true, ltb-false, eq-eqb, ne-eqb, eqb-false, not-false}
 use Rattle.laws.specs.Tests.{or-parts, and-right}
 use Rattle.laws.specs.Search.{none-at, total-le, largest-le}
-use Rattle.common.specs.Answers.{refused, accepted}
+use Rattle.common.specs.Answers.{refused, accepted, Line, refusing}
 use Rattle.reader.specs.File.{sampleCount, channelCount, sampleWords, headerVolume, loopStart, loopLength, cellsIn, samplePlace, Module, lastPattern, songLength, entries, entryOf, cellPlace, patternsOf}
 use Rattle.common.specs.Limits.{loudest, rows, lastRow}
 use Rattle.common.specs.declared.Answer.{Answer}
-use Rattle.reader.specs.Judge.{table, cellLines, restLines, tagged, badLength, badEntry, badVolume, badLoop, numberAt, periodAt, badAt, badCell, badNumberAt, badPeriodAt, verdict}
+use Rattle.reader.specs.Judge.{table, cellLines, restLines, tagged, badLength, badEntry, badVolume, badLoop, numberAt, periodAt, badAt, badCell, badNumberAt, badPeriodAt, verdict, moduleLine}
 use Rattle.reader.specs.Cells.{cellFrom, cellOffset, cellAt}
 use Rattle.reader.specs.Samples.{loopedOf, endOf, firstOf, extentOf}
 use Rattle.reader.specs.declared.Cell.{Cell}
 use Rattle.reader.specs.declared.Extent.{Extent}
 use Rattle.laws.specs.Ranges.{some, first}
-use Rattle.common.specs.AnswerLaws.{refusing-has, line-not-given}
+use Rattle.common.specs.AnswerLaws.{line-given, line-passed, refusing-has, line-not-given}
 use Rattle.common.specs.LimitFacts.{CellPeriod, cell-period-has}
 
 -- the table's lines, each as the fact that it was not given
@@ -87,6 +88,16 @@ verdict-answer m = refusing-has (λ (a : Answer). a ≡ refused (a .number) (a .
 -- what a caller's test of the verdict shows
 pub accepted-by : (m : Module) (v : Answer) → v ≡ verdict m → v .number ≡ 0 → verdict m .number ≡ 0
 accepted-by m v e z = ap (λ (x : Answer). x .number) (sym e) ∙ z
+
+-- ---- the line of a call that is lent a module
+module _ {A : Type 0} (refuse : ℕ → ℕ → A) (work : A) (m : Module) (more : List Line) (x : A) where
+  -- a refused module's number and place are the call's
+  pub module-given : (verdict m .number ≡ 0 → ⊥) → x ≡ refuse (verdict m .number) (verdict m .place) → x ≡ refusing refuse work (moduleLine m ∷ more)
+  module-given h e = line-given refuse work (verdict m .number) (verdict m .place) _ more x (rw (ne-eqb (verdict m .number) 0 h)) e
+
+  -- an accepted one leaves the lines that follow
+  pub module-passed : verdict m .number ≡ 0 → x ≡ refusing refuse work more → x ≡ refusing refuse work (moduleLine m ∷ more)
+  module-passed z e = line-passed refuse work (verdict m .number) (verdict m .place) _ more x (rw (eq-eqb (verdict m .number) 0 z)) e
 
 -- ---- the cells that the table can name
 -- a cell with a sample number to the last and period 0 or 113 to 856

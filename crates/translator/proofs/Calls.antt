@@ -2,16 +2,17 @@
 -- Assumes nothing.
 use Prim.Native.Nat.{ℕ, _+_, _-_, _*_, _≤_, _<_, _^_}
 use mathlib.Core.Path.{_≡_, refl, sym, ap, _∙_}
-use mathlib.Core.List.{List}
+use mathlib.Core.List.{List, []}
 use native.Mathlib.Nat.{mul-le-mul-right}
 use native.Mathlib.Omega.{arith}
 use lib.ListN.{length, take, drop}
 use mir.Syntax.{w64}
 use mir.Val.{Fits}
-use borrow.Author.Tests.{eq-eqb, ne-eqb, lt-ltb, le-ltb}
+use borrow.Author.Tests.{lt-ltb, le-ltb}
 use borrow.Rule.Slice.PartMut.{putMid}
 use Rattle.laws.specs.Lent.{tail-long}
-use Rattle.common.specs.Answers.{outcome, refused, accepted, refusing}
+use Rattle.common.specs.Answers.{outcome, refused, accepted}
+use Rattle.common.specs.AnswerLaws.{line-given, line-passed}
 use Rattle.common.specs.Bytes.{fourBytes}
 use Rattle.common.specs.Limits.{width}
 use Rattle.common.specs.declared.Answer.{Answer}
@@ -19,7 +20,7 @@ use Rattle.ticks.specs.Play.{over}
 use Rattle.reader.specs.declared.Layout.{Layout}
 use Rattle.reader.specs.File.{Module, lent, fourChannels, moduleOf, channelCount}
 use Rattle.reader.specs.Judge.{verdict}
-use Rattle.reader.specs.Accept.{accepted-by, verdict-answer}
+use Rattle.reader.specs.Accept.{accepted-by, verdict-answer, module-given, module-passed}
 use Rattle.sequencer.specs.Songs.{freshSong, freshSounding}
 use Rattle.sequencer.specs.RunLaws.{length-ticks}
 use Rattle.records.specs.Format.{versionPlace, recordsPlace, headBytes, bodyBytes, version, atFirst, streamHeader, encodeAfter}
@@ -95,25 +96,31 @@ module _ (layout : Layout) (bytes : List ℕ) (le : layout ≡ fourChannels) (v 
 
   -- 1 to 9
   pub translate-refused : (v .number ≡ 0 → ⊥) → outcome v room ≡ translateOf bytes n room
-  unfolding translateOf refusing
+  unfolding translateOf
   translate-refused h =
-      let e : v ≡ refused (v .number) (v .place) = rw here (verdict-answer (moduleOf bytes)) in
-      rw (← here, ne-eqb (v .number) 0 h) (ap (λ (a : Answer). outcome a room) e)
+      module-given _ _ (moduleOf bytes) _ (outcome v room) (λ q. h (ap (λ (a : Answer). a .number) here ∙ q)) (ap (λ (a : Answer). outcome a room) (here ∙ verdict-answer (moduleOf bytes)))
 
   module _ (z : v .number ≡ 0) (r : Answer) where
+    zero : verdict (moduleOf bytes) .number ≡ 0
+    zero = accepted-by (moduleOf bytes) v here z
+
     -- 11
     pub translate-many : mostTicks < n → r ≡ refused 11 0 → outcome r room ≡ translateOf bytes n room
-    unfolding translateOf refusing
-    translate-many h e = rw (e, ← here, eq-eqb (v .number) 0 z, lt-ltb mostTicks n h)
+    unfolding translateOf
+    translate-many h e = module-passed _ _ (moduleOf bytes) _ (outcome r room) zero (line-given _ _ 11 0 _ _ (outcome r room) (lt-ltb mostTicks n h) (rw e))
 
     module _ (few : n ≤ mostTicks) (len : ℕ) (l : Asked (lent layout bytes) n (length room) len) where
       -- 12
       pub translate-short : length room < len → r ≡ refused 12 len → outcome r room ≡ translateOf bytes n room
-      unfolding translateOf refusing
-      translate-short h e = rw (e, ← here, eq-eqb (v .number) 0 z, le-ltb mostTicks n few, ← rw le at (l .short h), lt-ltb (length room) len h)
+      unfolding translateOf
+      translate-short h e =
+          let s : len ≡ length (streamOf (moduleOf bytes) n) = rw le at (l .short h) in
+          module-passed _ _ (moduleOf bytes) _ (outcome r room) zero
+          (line-passed _ _ 11 0 _ _ (outcome r room) (le-ltb mostTicks n few)
+          (line-given _ _ 12 _ _ [] (outcome r room) (lt-ltb (length room) (length (streamOf (moduleOf bytes) n)) (rw s at h)) (rw (e, s))))
 
       pub translate-all : len ≤ length room → (k : ℕ) (room′ : List ℕ) → outcome (accepted k) room′ ≡ written (lent layout bytes) n room → r ≡ accepted k → outcome r room′ ≡ translateOf bytes n room
       translate-all h k room′ o e =
-          ap (λ (a : Answer). outcome a room′) e ∙ rw le at o ∙ sym (translated bytes n room (accepted-by (moduleOf bytes) v here z) few (rw le at (translate-fits layout bytes n len room l h)))
+          ap (λ (a : Answer). outcome a room′) e ∙ rw le at o ∙ sym (translated bytes n room zero few (rw le at (translate-fits layout bytes n len room l h)))
 
 pub ruleset call-laws = (accepted-by, translate-refused, translate-many, translate-short, translate-fits, translate-all)
