@@ -18,6 +18,7 @@ use offsets::LOOP_START_AT;
 use offsets::VOLUME_AT;
 
 mod cells;
+mod halves;
 mod headers;
 pub mod offsets;
 pub mod samples;
