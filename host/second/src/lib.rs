@@ -17,7 +17,7 @@ pub use length::{tick_frames, tick_rest};
 pub use play::{change_page, fresh, play, touch, trace_tick, Trace};
 pub use records::{decode, encode, Command, Stream, Tick};
 pub use stream::{play_stream, tick_list, translate};
-pub use voice::{growth, Voice};
+pub use voice::{growth, End, Voice};
 
 /// The numbers of a state where it is handed over: position, row, tick in row, delay, next
 /// position, next row, loop row, loop count, speed, tempo, remainder, clock, page; then for each

@@ -3,7 +3,7 @@
 use crate::length::tick_frames;
 use crate::module::Module;
 use crate::state::State;
-use crate::voice::{render, Voice, CHANNELS};
+use crate::voice::{ends, render, End, Voice, CHANNELS};
 use crate::work::{finish, work};
 use crate::{Answer, STATE_CELLS};
 
@@ -98,6 +98,14 @@ pub struct Trace {
     pub tempo: u32,
     pub voices: [Voice; CHANNELS],
     pub frames: Vec<i16>,
+}
+
+impl Trace {
+    /// The ends that the tick's voices come to; `file` is the module that it is of.
+    pub fn ends(&self, file: &[u8]) -> Result<Vec<End>, Answer> {
+        let module = Module::read(file)?;
+        Ok(ends(&module, &self.voices, self.frames.len() / 2))
+    }
 }
 
 /// Plays one tick and shows it; the cells hold the state after it.

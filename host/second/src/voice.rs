@@ -119,3 +119,32 @@ pub fn render(module: &Module, voices: &mut [Voice; CHANNELS], out: &mut [i16]) 
         frame[1] = (2 * (given[1] + given[2])) as i16;
     }
 }
+
+/// A frame of a tick in which a voice comes to its sample's end.
+#[derive(Clone, Copy, Debug, PartialEq, Eq)]
+pub struct End {
+    pub channel: usize,
+    pub frame: usize,
+    /// Whether it stops there; it loops otherwise.
+    pub stops: bool,
+}
+
+/// The ends that these voices come to in so many frames, channel by channel.
+pub fn ends(module: &Module, voices: &[Voice; CHANNELS], frames: usize) -> Vec<End> {
+    let mut ends = Vec::new();
+    for channel in 0..CHANNELS {
+        let mut voice = voices[channel];
+        for frame in 0..frames {
+            let index = voice.index;
+            voice.step(module, growth(voice.period));
+            if voice.index < index {
+                ends.push(End {
+                    channel,
+                    frame,
+                    stops: voice.stopped,
+                });
+            }
+        }
+    }
+    ends
+}

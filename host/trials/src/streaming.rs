@@ -68,8 +68,8 @@ fn any_stream(random: &mut Random, file: &[u8], translated: &[u8]) -> Vec<u8> {
     let seed = random.number();
     match random.below(1_000) {
         0 => empty_records(random),
-        1..=199 => (0..random.below(40)).map(|_| random.byte()).collect(),
-        200..=299 => translated.to_vec(),
+        1..=149 => (0..random.below(40)).map(|_| random.byte()).collect(),
+        150..=299 => translated.to_vec(),
         300..=399 => by_the_old_rule(translated),
         400..=549 => damaged_stream(seed, translated),
         550..=699 if accepted => legal_stream(seed, file),

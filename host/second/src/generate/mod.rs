@@ -4,6 +4,7 @@ mod bad_streams;
 mod cells;
 pub mod damage;
 pub mod draft;
+pub mod ends;
 pub mod modules;
 mod random;
 mod scenes;

@@ -1,6 +1,7 @@
 //! Generated modules, states, touches and streams: what holds of all of them.
 
 mod common;
+mod ends;
 mod lengths;
 mod playing;
 mod states;

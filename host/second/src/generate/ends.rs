@@ -1,0 +1,172 @@
+//! Modules whose voices come to their samples' ends at chosen frames: the two of a side in one
+//! frame or within five of each other, on a tick's first and last frame, and over and over in loops
+//! of two words. How long the samples are follows from the rule of the step.
+
+use super::draft::{Draft, Header};
+use super::Random;
+use crate::module::{HIGHEST_PERIOD, LOWEST_PERIOD};
+use crate::voice::growth;
+
+/// Rows with notes: each of their voices has a sample of its own.
+const ROWS: usize = 7;
+/// The channels, from 0, of each side.
+const SIDES: [[usize; 2]; 2] = [[0, 3], [1, 2]];
+/// Frames by which the ends of a side's two voices are apart at most.
+const FARTHEST: u32 = 5;
+/// The fewest steps that take a voice through two bytes, at the lowest period.
+const FEWEST_STEPS: u32 = 4;
+
+/// A sample that a note plays to its end.
+struct Note {
+    period: u32,
+    header: Header,
+    /// Steps from its start to the end.
+    steps: u32,
+}
+
+/// A valid module at one tempo. Where an end lies in its tick holds for the first time through, from
+/// fresh; how near another it lies holds in every play.
+pub fn ends(seed: u64) -> Vec<u8> {
+    let mut random = Random::new(seed);
+    let mut draft = Draft::empty();
+    let tempo = random.pick(&[32, 33, 125, 254, 255, 255]);
+    let mut ticks = 0;
+    for row in 0..ROWS {
+        let speed = random.between(1, 3);
+        let limits = limits(tempo, ticks, speed);
+        let effects = effects(row, speed, tempo);
+        for side in SIDES {
+            for (channel, note) in side.into_iter().zip(pair(&mut random, &limits)) {
+                put(&mut draft, row, channel, note, effects[channel]);
+            }
+        }
+        ticks += speed;
+    }
+    fill_bytes(&mut random, &mut draft);
+    draft.bytes()
+}
+
+/// The frames of a row, from its first, at which its ticks begin, and at which the next row does.
+fn limits(tempo: u32, ticks: u32, speed: u32) -> Vec<u32> {
+    let begins = |tick: u32| 120_000 * tick / tempo;
+    (ticks..=ticks + speed)
+        .map(|tick| begins(tick) - begins(ticks))
+        .collect()
+}
+
+/// The steps after which a voice that began at fraction 0 has gone on by so many bytes.
+fn steps_to(bytes: u32, period: u32) -> u32 {
+    (65_536 * u64::from(bytes)).div_ceil(growth(period).into()) as u32
+}
+
+/// The bytes by which so many steps go on.
+fn bytes_in(steps: u32, period: u32) -> u32 {
+    (u64::from(steps) * u64::from(growth(period)) / 65_536) as u32
+}
+
+/// Two notes of a side whose ends are near each other; at times one of them gives nothing.
+fn pair(random: &mut Random, limits: &[u32]) -> [Note; 2] {
+    let steps = wanted(random, limits);
+    let first = if random.chance(30) {
+        at_edge(random, steps)
+    } else {
+        exact(random, steps)
+    };
+    let first = note(random, first);
+    let apart = random.pick(&[0, 0, 1, 2, 3, 4, FARTHEST]);
+    let steps = if random.chance(50) {
+        first.steps + apart
+    } else {
+        first.steps.saturating_sub(apart).max(FEWEST_STEPS)
+    };
+    let second = exact(random, steps);
+    let mut second = note(random, second);
+    match random.below(10) {
+        0 => second.header.volume = 0,
+        1 => (second.header.length, second.header.repeat) = (0, 0),
+        _ => {}
+    }
+    if random.chance(50) {
+        [first, second]
+    } else {
+        [second, first]
+    }
+}
+
+/// Steps to an end: soon, in a tick's first frame, in a tick's last, or anywhere in the row.
+fn wanted(random: &mut Random, limits: &[u32]) -> u32 {
+    let last = limits.len() as u32 - 1;
+    let tick = random.between(1, last) as usize;
+    match random.below(4) {
+        0 => random.between(FEWEST_STEPS, 50),
+        1 if last > 1 => limits[random.between(1, last - 1) as usize] + 1,
+        2 => limits[tick],
+        _ => random.between(FEWEST_STEPS, limits[tick]),
+    }
+}
+
+/// The lowest or the highest period, and the words that it goes through in at most so many steps.
+fn at_edge(random: &mut Random, steps: u32) -> (u32, u32) {
+    let period = random.pick(&[LOWEST_PERIOD, HIGHEST_PERIOD]);
+    (period, (bytes_in(steps, period) / 2).max(1))
+}
+
+/// A period, often the lowest or the highest that will do, and the words that it goes through in
+/// just so many steps.
+fn exact(random: &mut Random, steps: u32) -> (u32, u32) {
+    let first = random.between(LOWEST_PERIOD, HIGHEST_PERIOD);
+    let edges = if random.chance(50) {
+        [LOWEST_PERIOD, HIGHEST_PERIOD]
+    } else {
+        [first; 2]
+    };
+    edges
+        .into_iter()
+        .chain(first..=HIGHEST_PERIOD)
+        .chain(LOWEST_PERIOD..first)
+        .map(|period| (period, bytes_in(steps, period) / 2))
+        .find(|&(period, words)| words > 0 && steps_to(2 * words, period) == steps)
+        .unwrap_or((LOWEST_PERIOD, 1))
+}
+
+/// A note that goes through so many words to its end, which stops it or is the end of a loop.
+fn note(random: &mut Random, (period, words): (u32, u32)) -> Note {
+    // A repeat length of 1 is no loop.
+    let repeat = match random.below(8) {
+        0..=2 => random.below(2),
+        3..=5 => words.min(2),
+        6 => words,
+        _ => random.between(1, words),
+    };
+    let mut header = Draft::empty().headers.remove(0);
+    header.volume = 64;
+    header.length = words;
+    header.repeat = repeat;
+    if repeat > 1 {
+        header.start = words - repeat;
+        header.length += random.below(3);
+    }
+    Note {
+        period,
+        header,
+        steps: steps_to(2 * words, period),
+    }
+}
+
+/// Each channel's effect: the row's speed, the tempo, and after the last row the first again.
+fn effects(row: usize, speed: u32, tempo: u32) -> [u32; 4] {
+    let again = if row + 1 == ROWS { 0xD00 } else { 0 };
+    [0xF00 + speed, 0xF00 + tempo, again, 0]
+}
+
+/// Puts a note and its sample on the row's channel.
+fn put(draft: &mut Draft, row: usize, channel: usize, note: Note, effect: u32) {
+    let place = 4 * row + channel;
+    draft.headers[place] = note.header;
+    draft.put(0, row, channel, place as u32 + 1, note.period, effect);
+}
+
+fn fill_bytes(random: &mut Random, draft: &mut Draft) {
+    let words: u32 = draft.headers.iter().map(|header| header.length).sum();
+    draft.sample_bytes = (0..2 * words).map(|_| random.byte()).collect();
+}
