@@ -1,91 +1,137 @@
-//! Mixing: ns a frame of one tick at tempo 32 with four voices, beside a C loop (c/mix.c).
-use super::modules::{held, LOOP_LENGTH, LOOP_START, SAMPLE_BYTES};
+//! Mixing: ns a frame of one tick, by what its voices do, beside the C loops and the second implementation.
+use super::loops::{mix, same_places, voices, LOOPS};
+use super::modules::{held, ENDING, LOOPED, LOOP_START, SAMPLE_BYTES, SHORT};
 use crate::say::say;
-use crate::timing::print_medians;
-use lampthistle::{cell, State};
+use crate::timing::medians;
+use lampthistle::{cell, tick_numbers, State};
 use std::hint::black_box;
 
-const FRAMES: usize = 3_750;
+/// The four voices' periods, and a byte in the middle of the long loop.
 const PERIODS: [u32; 4] = [428, 285, 214, 160];
+const LOWEST_PERIOD: u32 = 113;
 const FIRST_INDEX: u32 = 300;
 
-/// A voice as c/mix.c takes it.
-#[repr(C)]
-#[derive(Clone, Copy)]
-struct Voice {
-    bytes: *const i8,
-    end: u32,
-    first: u32,
-    growth: u32,
-    volume: i32,
-    index: u32,
-    fraction: u32,
+/// A tick to mix: what it is, and the state before it.
+struct Case {
+    name: &'static str,
+    state: State,
 }
 
-extern "C" {
-    fn mix_plain(voices: *mut Voice, out: *mut i16, frames: usize);
-}
+/// Sample, period and index of a voice at volume 64.
+type Sounding = (u32, u32, u32);
 
-/// A state with four looped voices at volume 64, at tempo 32, in the middle of a row.
-fn sounding() -> State {
+/// A state in the middle of a row in which the first channels' voices sound.
+fn state(tempo: u32, voices: &[Sounding]) -> State {
     let mut state = lampthistle::fresh();
     state.0[cell::TICK] = 1;
     state.0[cell::SPEED] = 31;
-    state.0[cell::TEMPO] = 32;
-    for (channel, period) in PERIODS.into_iter().enumerate() {
+    state.0[cell::TEMPO] = tempo;
+    for (channel, &(sample, period, index)) in voices.iter().enumerate() {
         let own = &mut state.0[cell::channel(channel)..];
         own[cell::VOLUME] = 64;
         own[cell::PERIOD] = period;
-        own[cell::VOICE_SAMPLE] = channel as u32 + 1;
-        own[cell::VOICE_INDEX] = FIRST_INDEX;
+        own[cell::VOICE_SAMPLE] = sample;
+        own[cell::VOICE_INDEX] = index;
         own[cell::VOICE_STOPPED] = 0;
     }
     state
 }
 
-/// The same voices for the C loop.
-fn plain_voices(file: &[u8]) -> [Voice; 4] {
-    let samples = &file[file.len() - 4 * SAMPLE_BYTES..];
-    std::array::from_fn(|k| Voice {
-        bytes: samples[SAMPLE_BYTES * k..].as_ptr().cast(),
-        end: 2 * (LOOP_START + LOOP_LENGTH),
-        first: 2 * LOOP_START,
-        growth: second::growth(PERIODS[k]),
-        volume: 64,
-        index: FIRST_INDEX,
-        fraction: 0,
-    })
+/// The index from which a voice comes to its sample's end in about so many frames.
+fn before_end(period: u32, frames: u32) -> u32 {
+    SAMPLE_BYTES as u32 - frames * second::growth(period) / 65_536
+}
+
+fn cases() -> [Case; 6] {
+    let four = |voice: &dyn Fn(u32, u32) -> Sounding| -> [Sounding; 4] {
+        std::array::from_fn(|k| voice(k as u32, PERIODS[k]))
+    };
+    let looped = four(&|k, period| (LOOPED + k, period, FIRST_INDEX));
+    // Each voice at another byte of its loop.
+    let short = four(&|k, _| (SHORT + k, LOWEST_PERIOD, 2 * LOOP_START + k));
+    let ending = four(&|k, period| (ENDING + k, period, before_end(period, 1_500 + 250 * k)));
+    let case = |name, tempo, voices: &[Sounding]| Case {
+        name,
+        state: state(tempo, voices),
+    };
+    [
+        case("3,750 frames, four voices", 32, &looped),
+        case("the same, loops of two words, period 113", 32, &short),
+        case("the same, samples that end in the middle", 32, &ending),
+        case("3,750 frames, one voice", 32, &looped[..1]),
+        case("3,750 frames, no voice", 32, &[]),
+        case("470 frames at tempo 255, four voices", 255, &looped),
+    ]
+}
+
+/// Plays the tick, and holds the second implementation and every C loop to its frames and voices; the numbers that it has.
+fn check(file: &[u8], before: &State) -> usize {
+    let mut after = *before;
+    let mut out = vec![0; lampthistle::TICK_NUMBERS];
+    let played = lampthistle::play(file, &mut after, 1, &mut out).count;
+    assert!(played == 1, "the tick is played");
+    out.truncate(tick_numbers(before, &after));
+    let (mut cells, mut other) = (before.0, vec![1; out.len()]);
+    second::play(file, &mut cells, 1, &mut other);
+    assert!(other == out && cells == after.0, "both play the same");
+    for (name, mixer) in LOOPS {
+        let mut moved = voices(file, before);
+        let mut mixed = vec![1; out.len()];
+        mix(mixer, &mut moved, &mut mixed);
+        assert!(mixed == out, "{name}: the same frames");
+        assert!(same_places(&moved, &voices(file, &after)), "{name}: places");
+    }
+    out.len()
+}
+
+/// The medians of a tick in ns a frame: proved, the C loops, the second implementation.
+fn measure(file: &[u8], state: &State) -> Vec<f64> {
+    let numbers = check(file, state);
+    let (mut out, mut other) = (vec![0; numbers], vec![0; numbers]);
+    let mut proved = || {
+        let mut state = *state;
+        let _ = black_box(lampthistle::play(black_box(file), &mut state, 1, &mut out));
+    };
+    let mut second = || {
+        let mut cells = state.0;
+        black_box(second::play(black_box(file), &mut cells, 1, &mut other));
+    };
+    let before = voices(file, state);
+    let mut loops = LOOPS.map(|(_, mixer)| {
+        let mut out = vec![0; numbers];
+        move || {
+            let mut voices = before;
+            mix(mixer, &mut voices, black_box(&mut out));
+            black_box(&voices);
+        }
+    });
+    let [plain, sides, four] = &mut loops;
+    let took = medians(&mut [
+        ("", &mut proved),
+        ("", plain),
+        ("", sides),
+        ("", four),
+        ("", &mut second),
+    ]);
+    let frames = (numbers / 2) as f64;
+    took.into_iter().map(|ns| ns / frames).collect()
 }
 
 pub fn print() {
     let file = held();
-    let state = sounding();
-    let mut out = vec![0; 2 * FRAMES];
-    let (mut other, mut plain) = (out.clone(), out.clone());
-    let voices = plain_voices(&file);
-    let mut proved_tick = || {
-        let mut state = state;
-        let _ = black_box(lampthistle::play(black_box(&file), &mut state, 1, &mut out));
-    };
-    let mut second_tick = || {
-        let mut cells = state.0;
-        black_box(second::play(black_box(&file), &mut cells, 1, &mut other));
-    };
-    let mut plain_tick = || {
-        let mut voices = voices;
-        // SAFETY: four voices, `FRAMES` pairs of numbers, and every voice stays inside its sample's bytes.
-        unsafe { mix_plain(voices.as_mut_ptr(), plain.as_mut_ptr(), FRAMES) };
-        black_box(&voices);
-    };
-    say("mixing 3,750 frames, one tick at tempo 32, four looped voices");
-    print_medians(
-        "frame",
-        FRAMES as f64,
-        &mut [
-            ("proved, one call of play", &mut proved_tick),
-            ("C, plain loop, mixing alone", &mut plain_tick),
-            ("second implementation, play", &mut second_tick),
-        ],
-    );
-    assert!(out == other && out == plain, "all three mix the same");
+    let names = LOOPS.map(|(name, _)| name).join(" | ");
+    say("mixing one tick, ns a frame: proved is a call of play, C is mixing alone");
+    say(&format!(
+        "| | proved | {names} | second | proved to the best C |"
+    ));
+    say("|---|---|---|---|---|---|---|");
+    for Case { name, state } in cases() {
+        let took = measure(&file, &state);
+        let best = took[1..=LOOPS.len()]
+            .iter()
+            .copied()
+            .fold(f64::MAX, f64::min);
+        let row: String = took.iter().map(|ns| format!(" {ns:.3} |")).collect();
+        say(&format!("| {name} |{row} {:.2} |", took[0] / best));
+    }
 }

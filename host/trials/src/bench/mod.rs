@@ -1,5 +1,6 @@
 //! The benchmarks, each a part of one table: medians of 101 runs.
 mod judging;
+mod loops;
 mod mixing;
 mod modules;
 mod streaming;

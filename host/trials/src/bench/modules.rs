@@ -30,10 +30,16 @@ pub fn large() -> Vec<u8> {
     accepted(draft.bytes())
 }
 
-/// The bytes of a sample, and the words of its loop in `held` and `busy`.
+/// The bytes of a sample, and the words of a loop.
 pub const SAMPLE_BYTES: usize = 2_048;
 pub const LOOP_START: u32 = 100;
-pub const LOOP_LENGTH: u32 = 900;
+const LOOP_LENGTH: u32 = 900;
+const SHORT_LOOP: u32 = 2;
+
+/// The first of the four samples of `held` that have the long loop, the one of two words, or none.
+pub const LOOPED: u32 = 1;
+pub const SHORT: u32 = 5;
+pub const ENDING: u32 = 9;
 
 /// Four looped samples and one empty pattern.
 fn four_samples() -> Draft {
@@ -45,9 +51,15 @@ fn four_samples() -> Draft {
     draft
 }
 
-/// Four looped samples and nothing to do: a state's voices sound on.
+/// Four samples of each kind and nothing to do: a state's voices sound on.
 pub fn held() -> Vec<u8> {
-    accepted(four_samples().bytes())
+    let mut draft = four_samples();
+    for (first, repeat) in [(SHORT, SHORT_LOOP), (ENDING, 0)] {
+        for number in first as usize..first as usize + 4 {
+            draft.add_looped(number, 64, LOOP_START, repeat, &noise(number as u64));
+        }
+    }
+    accepted(draft.bytes())
 }
 
 /// Four looped samples and one pattern: a note on each channel in every fourth row, arpeggios and slides between.
