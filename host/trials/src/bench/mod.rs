@@ -3,6 +3,7 @@ mod judging;
 mod loops;
 mod mixing;
 mod modules;
+mod shares;
 mod streaming;
 mod ticks;
 
@@ -10,6 +11,7 @@ mod ticks;
 pub fn table() {
     judging::print();
     mixing::print();
+    shares::print();
     ticks::print();
     streaming::print();
 }

@@ -4,6 +4,29 @@ use second::generate::Random;
 
 /// 64 patterns of good cells, so that judging takes its longest, and 31 samples of 1,024 words, the half of them looped.
 pub fn large() -> Vec<u8> {
+    let mut draft = large_patterns();
+    for number in 1..=31 {
+        draft.add_looped(
+            number,
+            64,
+            0,
+            number as u32 % 2 * 1024,
+            &noise(number as u64),
+        );
+    }
+    accepted(draft.bytes())
+}
+
+/// The same patterns over empty samples: no voice ever sounds.
+pub fn large_and_silent() -> Vec<u8> {
+    let mut draft = large_patterns();
+    for header in &mut draft.headers {
+        header.volume = 64;
+    }
+    accepted(draft.bytes())
+}
+
+fn large_patterns() -> Draft {
     let mut draft = Draft::empty();
     draft.song_length = 64;
     for (place, entry) in draft.table[..64].iter_mut().enumerate() {
@@ -18,16 +41,7 @@ pub fn large() -> Vec<u8> {
         }
         cell.parameter = random.below(256);
     }
-    for number in 1..=31 {
-        draft.add_looped(
-            number,
-            64,
-            0,
-            number as u32 % 2 * 1024,
-            &noise(number as u64),
-        );
-    }
-    accepted(draft.bytes())
+    draft
 }
 
 /// The bytes of a sample, and the words of a loop.
