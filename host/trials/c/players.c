@@ -1,6 +1,6 @@
 /* players MODULE: how long players take for ten seconds of a module, 48,000 frames a second, two channels of 16-bit numbers, without
-   filters and interpolation: medians of 101 runs, in ns a frame. Compiled with those of WITH_MIKMOD, WITH_XMP and WITH_OPENMPT that are
-   installed. */
+   filters and interpolation: medians of 101 runs, in ns of processor time a frame. The players take turns, so that a slow moment meets them
+   all. Compiled with those of WITH_MIKMOD, WITH_XMP and WITH_OPENMPT that are installed. */
 #define _POSIX_C_SOURCE 200809L
 #include "lampthistle.h"
 #include <stdio.h>
@@ -25,30 +25,16 @@ static int16_t out[2 * (FRAMES + 8192)];
 /* A work plays at least FRAMES frames from the beginning, and says how many; 0 where it cannot. */
 typedef size_t (*work)(void);
 
+/* A run takes longer than a turn on a shared core, so what others take is not counted. */
 static double now(void) {
     struct timespec t;
-    clock_gettime(CLOCK_MONOTONIC, &t);
+    clock_gettime(CLOCK_PROCESS_CPUTIME_ID, &t);
     return t.tv_sec * 1e9 + t.tv_nsec;
 }
 
 static int order(const void *a, const void *b) {
     double x = *(const double *)a, y = *(const double *)b;
     return (x > y) - (x < y);
-}
-
-static void measure(const char *name, work play) {
-    double took[RUNS];
-    for (int k = 0; k < RUNS; k++) {
-        double began = now();
-        size_t frames = play();
-        if (frames == 0) {
-            printf("  %-34s cannot play it\n", name);
-            return;
-        }
-        took[k] = (now() - began) / frames;
-    }
-    qsort(took, RUNS, sizeof took[0], order);
-    printf("  %-34s %10.3f ns a frame\n", name, took[RUNS / 2]);
 }
 
 static size_t one_tick_a_call(void) {
@@ -86,15 +72,13 @@ static size_t mikmod(void) {
     return frames;
 }
 
-static void measure_mikmod(void) {
+static int begin_mikmod(void) {
     MikMod_RegisterDriver(&drv_nos);
     MikMod_RegisterAllLoaders();
     md_mode = DMODE_SOFT_MUSIC | DMODE_16BITS | DMODE_STEREO;
     md_mixfreq = LAMPTHISTLE_RATE;
     md_reverb = 0;
-    if (MikMod_Init("") != 0) return;
-    measure("libmikmod, not interpolated", mikmod);
-    MikMod_Exit();
+    return MikMod_Init("") == 0;
 }
 #endif
 
@@ -136,21 +120,55 @@ static size_t openmpt(void) {
 }
 #endif
 
+typedef struct player {
+    const char *name;
+    work play;
+    double took[RUNS];
+} player;
+
+static player players[] = {
+    {"lampthistle, one call", one_call, {0}},
+    {"lampthistle, one tick a call", one_tick_a_call, {0}},
+#ifdef WITH_MIKMOD
+    {"libmikmod, not interpolated", mikmod, {0}},
+#endif
+#ifdef WITH_XMP
+    {"libxmp, nearest, no filter", libxmp, {0}},
+#endif
+#ifdef WITH_OPENMPT
+    {"libopenmpt, not interpolated", openmpt, {0}},
+#endif
+};
+
+enum { PLAYERS = sizeof players / sizeof players[0] };
+
+/* Whether every player could play the module, every time. */
+static int measure(void) {
+    for (int run = 0; run < RUNS; run++)
+        for (int k = 0; k < PLAYERS; k++) {
+            double began = now();
+            size_t frames = players[k].play();
+            if (frames == 0) return fprintf(stderr, "%s: cannot play it\n", players[k].name), 0;
+            players[k].took[run] = (now() - began) / frames;
+        }
+    return 1;
+}
+
 int main(int words, char **word) {
     FILE *in = words == 2 ? fopen(word[1], "rb") : NULL;
     if (!in) return fprintf(stderr, "usage: players MODULE\n"), 2;
     length = fread(module, 1, sizeof module, in);
-    printf("ten seconds of %s; the other players load the module in each run, too\n", word[1]);
-    measure("lampthistle, one call", one_call);
-    measure("lampthistle, one tick a call", one_tick_a_call);
 #ifdef WITH_MIKMOD
-    measure_mikmod();
+    if (!begin_mikmod()) return fprintf(stderr, "libmikmod does not begin\n"), 1;
 #endif
-#ifdef WITH_XMP
-    measure("libxmp, nearest, no filter", libxmp);
-#endif
-#ifdef WITH_OPENMPT
-    measure("libopenmpt, not interpolated", openmpt);
+    if (!measure()) return 1;
+    printf("ten seconds of %s; the other players load the module in each run, too\n", word[1]);
+    for (int k = 0; k < PLAYERS; k++) {
+        qsort(players[k].took, RUNS, sizeof players[k].took[0], order);
+        printf("  %-34s %10.3f ns a frame\n", players[k].name, players[k].took[RUNS / 2]);
+    }
+#ifdef WITH_MIKMOD
+    MikMod_Exit();
 #endif
     return 0;
 }
