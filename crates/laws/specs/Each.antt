@@ -2,7 +2,7 @@
 -- Assumes nothing.
 use Prim.Native.Nat.{ℕ, zero, suc, _+_, _≤_, _<_}
 use mathlib.Core.Path.{_≡_, refl, sym, ap, ap₂, _∙_}
-use mathlib.Core.Bool.{cond}
+use mathlib.Core.Bool.{Bool, true, false, cond}
 use mathlib.Core.List.{List, _∷_}
 use native.Mathlib.Omega.{arith}
 use lib.ListN.{length, getD, set, replicate, length-set}
@@ -105,6 +105,19 @@ module _ {A : Type 0} (f : ℕ → A) (d : A) (n : ℕ) (xs : List A) where
           done = below-more _ _ (λ k p. getD-set-other xs i k x d (omega arith) ∙ w .done k p) (getD-set-same xs i x d (rw (w .long) (let b : i < n = omega arith in b)) ∙ e);
           rest = λ k p. getD-set-other xs i k x d (omega arith) ∙ w .rest k (omega arith);
         }
+
+    -- past elements whose f is g
+    pub part-skip : (i j : ℕ) → Parting f g d n xs i → i ≤ j → ((k : ℕ) → i ≤ k → k < j → f k ≡ g k) → Parting f g d n xs j
+    part-skip i j w h e =
+        record {
+          long = w .long;
+          done = λ k l. go k l (ltb k i) refl;
+          rest = λ k l. w .rest k (omega arith);
+        }
+      where
+        go : (k : ℕ) → k < j → (t : Bool) → ltb k i ≡ t → getD xs k d ≡ f k
+        go k l true t = w .done k (ltb-true k i t)
+        go k l false t = let m : i ≤ k = ltb-false k i t in w .rest k m ∙ sym (e k m l)
 
     pub part-end : (i c : ℕ) → Parting f g d n xs i → c ≤ i → i ≤ c → xs ≡ partly f c g n
     unfolding partly
