@@ -55,15 +55,20 @@ module _ (s : Sample) (v : Voice) where
   steps-volume zero = refl
   steps-volume (suc k) = step-keeps (λ (w : Voice). w .volume ≡ v .volume) s (stepsOf s k v) (λ i f. steps-volume k) (steps-volume k) (steps-volume k)
 
+  pub steps-period : (k : ℕ) → stepsOf s k v .period ≡ v .period
+  unfolding stepsOf
+  steps-period zero = refl
+  steps-period (suc k) = step-keeps (λ (w : Voice). w .period ≡ v .period) s (stepsOf s k v) (λ i f. steps-period k) (steps-period k) (steps-period k)
+
 -- ---- a voice that sounds
-loud-has : (v : Voice) → silentOf v ≡ false → (v .stopped ≡ false) × ((v .sample ≡ 0 → ⊥) × (v .period ≡ 0 → ⊥))
+pub loud-has : (v : Voice) → silentOf v ≡ false → (v .stopped ≡ false) × ((v .sample ≡ 0 → ⊥) × (v .period ≡ 0 → ⊥))
 unfolding silentOf
 loud-has v e =
     let a = or-parts (v .stopped) (eqb (v .sample) 0 || eqb (v .period) 0) e in
     let b = or-parts (eqb (v .sample) 0) (eqb (v .period) 0) (a .1) in
     (a .0, (eqb-false _ _ (b .0), eqb-false _ _ (b .1)))
 
-period-low : {p : ℕ} → LegalPeriod p → (p ≡ 0 → ⊥) → leastPeriod ≤ p
+pub period-low : {p : ℕ} → LegalPeriod p → (p ≡ 0 → ⊥) → leastPeriod ≤ p
 period-low silent n = absurd (n refl)
 period-low (sounding l h) n = l
 

@@ -91,7 +91,7 @@ unfolding sumOf
 sum-same g h s zero e = refl
 sum-same g h s (suc c) e = ap₂ (λ (x y : ℤ). x +ℤ cond (eqb (sideOf c) s) y (pos 0)) (sum-same g h s c (λ i l. e i (omega arith))) (e c (omega arith))
 
-frames-from : (times : ℕ) (g h : ℕ → ℕ → ℤ) (c : ℕ) → ((k i : ℕ) → i < c → g k i ≡ h k i) → (k n : ℕ) → framesFrom times g c k n ≡ framesFrom times h c k n
+pub frames-from : (times : ℕ) (g h : ℕ → ℕ → ℤ) (c : ℕ) → ((k i : ℕ) → i < c → g k i ≡ h k i) → (k n : ℕ) → framesFrom times g c k n ≡ framesFrom times h c k n
 unfolding framesFrom
 frames-from times g h c e k zero = refl
 frames-from times g h c e k (suc n) =

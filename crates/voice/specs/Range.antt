@@ -42,7 +42,7 @@ read-range : (bytes : List ℕ) → Bytes bytes → (i : ℕ) → mag (readAt by
 unfolding readAt
 read-range bytes h i = either (λ (z : ℤ). mag z < 128) (ltb i 2) (pos 0) (signedOf (getD bytes i 0)) (λ _. omega arith) (λ _. signed-range (getD bytes i 0) (h i))
 
-gives-range : (bytes : List ℕ) → Bytes bytes → (v : Voice) → v .volume ≤ loudest → mag (givesOf bytes v) < greatestGiven
+pub gives-range : (bytes : List ℕ) → Bytes bytes → (v : Voice) → v .volume ≤ loudest → mag (givesOf bytes v) < greatestGiven
 unfolding givesOf
 gives-range bytes h v l =
     either (λ (z : ℤ). mag z < greatestGiven) (silentOf v) (pos 0) (readAt bytes (v .index) *ℤ pos (v .volume)) (λ _. omega arith)

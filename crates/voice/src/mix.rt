@@ -1,18 +1,27 @@
-// Mixing voices into frames, voice by voice.
+// Mixing voices into frames, a side at a time. The first two channels that sound on a side are stored, further ones added to them.
 ghost use mathlib.Core.Path.{_≡_};
-ghost use mathlib.Core.List.{_++_};
+ghost use mathlib.Core.List.{_++_, []};
 ghost use Prim.Native.Nat.{ℕ, _+_, _*_, _<_, _≤_};
-ghost use lib.ListN.{length, getD, drop, replicate};
+ghost use lib.ListN.{length, getD, drop, set};
 ghost use lib.IntN.{pos, _+ℤ_, _*ℤ_};
-ghost use Rattle.common.specs.Limits.{width, loudest};
+ghost use Rattle.laws.specs.Ranges.{every, within};
+ghost use Rattle.laws.specs.Each.{Filled};
+ghost use Rattle.common.specs.Limits.{width, loudest, sampleNumbers};
+ghost use Rattle.runs.specs.Cells.{numbersFrom, laidFrom, stored};
 ghost use Rattle.reader.specs.File.{lent};
-ghost use Rattle.voice.specs.Voice.{givesOf};
-ghost use Rattle.voice.specs.Modules.{samplesIn, sampleWith};
-ghost use Rattle.voice.specs.Frames.{stepsOf, givesAt, sideOf, scaleOf, frameNumbers, mixed, moved};
-ghost use Rattle.voice.specs.Adding.{numbersFrom, addedFrom, Room};
+ghost use Rattle.reader.specs.Samples.{noExtent};
 ghost use Rattle.reader.specs.Layouts.{LegalLayout};
+ghost use Rattle.ticks.specs.Commands.{nothing};
+ghost use Rattle.voice.specs.Voice.{givesOf, silentOf};
+ghost use Rattle.voice.specs.Modules.{sampleWith, samplesIn};
+ghost use Rattle.voice.specs.Frames.{stepsOf, sideOf, scaleOf, frameNumbers, blank, mixed, moved};
+ghost use Rattle.voice.specs.Adding.{Room};
+ghost use Rattle.voice.specs.Range.{LegalSides};
 ghost use Rattle.voice.specs.LegalFacts.{LegalSound, LoopInside, Ready};
+ghost use Rattle.voice.specs.Runs.{oneAt, bothAt};
+ghost use Rattle.voice.specs.Sides.{cutOf, Voiced, extentAt, voiceIn, Sounding, sideAt, sidedOf, soundsOf, Next, Siding, markAt, toldAt, silentAt};
 use crate::Voice;
+use crate::run::mix_pair;
 use common::limits::SAMPLE_NUMBERS;
 use common::limits::WIDTH;
 use reader::Extent;
@@ -48,8 +57,9 @@ fn mix_voice(
     requires fits { ⌜ (side < 2) × (frameNumbers * frames ≤ length (now out)) ⌝ }
     requires room { ⌜ ((k : ℕ) → k < frames → Room times (getD (now out) (side + frameNumbers * k) (pos 0))) ⌝ }
     ensures moved { λ r. ⌜ r ≡ stepsOf (sampleWith (now (bytes .entry)) extent) frames voice ⌝ }
-    ensures added { λ _. ⌜ now (out .exit) ≡ addedFrom side (numbersFrom times (givesAt (sampleWith (now (bytes .entry)) extent) voice) 0 frames) (now (out .entry)) ⌝ }
+    ensures added { λ _. ⌜ now (out .exit) ≡ laidFrom _+ℤ_ side (numbersFrom (oneAt times (sampleWith (now (bytes .entry)) extent) voice) 0 frames) (now (out .entry)) ⌝ }
 {
+    let g = crate::rate(voice.period);
     let mut w = voice;
     let mut k = 0;
     while k < frames {
@@ -57,22 +67,10 @@ fn mix_voice(
         let x = out[at];
         let y = cell(x, w, bytes, times);
         out[at] = y;
-        w = w.step(extent);
+        w = w.step(g, extent);
         k += 1;
     }
     w
-}
-
-// The first cells become 0.
-fn clear(cells: usize, out: &mut [i16])
-    requires { ⌜ cells ≤ length (now out) ⌝ }
-    ensures { λ _. ⌜ now (out .exit) ≡ replicate cells (pos 0) ++ drop cells (now (out .entry)) ⌝ }
-{
-    let mut i = 0;
-    while i < cells {
-        out[i] = 0;
-        i += 1;
-    }
 }
 
 // The side that channel i, from 0, is on.
@@ -93,6 +91,247 @@ fn scale(channels: usize) -> u32
     1
 }
 
+// Whether channel i, of this voice, sounds on a side.
+fn sounds(on: usize, i: usize, voice: Voice) -> bool
+    requires { ⌜ i < width ⌝ }
+    ensures { λ r. ⌜ r ≡ soundsOf on i voice ⌝ }
+{
+    if side(i) == on {
+        if voice.silent() {
+            return false;
+        }
+        return true;
+    }
+    false
+}
+
+// The first channel from one on that sounds on a side, or the count.
+fn next(channels: usize, voices: [Voice; WIDTH], on: usize, from: usize) -> usize
+    requires { ⌜ (channels ≤ width) × (from ≤ channels) ⌝ }
+    ensures { λ r. ⌜ Next voices on channels from r ⌝ }
+{
+    let mut i = from;
+    while i < channels {
+        if sounds(on, i, voices[i]) {
+            return i;
+        }
+        i += 1;
+    }
+    channels
+}
+
+// One channel's frames, stored into its side's cells, and the voices after them.
+fn mix_one(
+    file: &[u8],
+    extents: [Extent; WIDTH],
+    voices: [Voice; WIDTH],
+    i: usize,
+    times: u32,
+    frames: usize,
+    out: &mut [i16],
+    on: usize,
+) -> [Voice; WIDTH]
+    requires voiced { ⌜ (i < width) × Voiced (now file) (extentAt extents i) (voiceIn voices i) × (0 < extentAt extents i .end) ⌝ }
+    requires fits { ⌜ (times ≤ 2) × (on < 2) × (frameNumbers * frames ≤ length (now out)) ⌝ }
+    ensures moved { λ r. ⌜ r ≡ set voices i (stepsOf (cutOf (now (file .entry)) (extentAt extents i)) frames (voiceIn voices i)) ⌝ }
+    ensures cells { λ _. ⌜ now (out .exit) ≡ laidFrom stored on (numbersFrom (oneAt times (cutOf (now (file .entry)) (extentAt extents i)) (voiceIn voices i)) 0 frames) (now (out .entry)) ⌝ }
+{
+    let extent = extents[i];
+    let from = extent.from;
+    let to = extent.to;
+    let bytes = &file[from..to];
+    let p = mix_pair(
+        bytes,
+        voices[i],
+        extent,
+        bytes,
+        Voice::fresh(),
+        extent,
+        times,
+        frames,
+        out,
+        on,
+    );
+    let a = p.a;
+    let mut w = voices;
+    w[i] = a;
+    w
+}
+
+// Two channels' frames, stored into their side's cells, and the voices after them.
+fn mix_two(
+    file: &[u8],
+    extents: [Extent; WIDTH],
+    voices: [Voice; WIDTH],
+    i: usize,
+    j: usize,
+    times: u32,
+    frames: usize,
+    out: &mut [i16],
+    on: usize,
+) -> [Voice; WIDTH]
+    requires first { ⌜ (i < width) × Voiced (now file) (extentAt extents i) (voiceIn voices i) × (0 < extentAt extents i .end) ⌝ }
+    requires second { ⌜ (j < width) × Voiced (now file) (extentAt extents j) (voiceIn voices j) × (0 < extentAt extents j .end) ⌝ }
+    requires fits { ⌜ (times ≤ 2) × (on < 2) × (frameNumbers * frames ≤ length (now out)) ⌝ }
+    ensures moved { λ r. ⌜ r ≡ set (set voices i (stepsOf (cutOf (now (file .entry)) (extentAt extents i)) frames (voiceIn voices i))) j (stepsOf (cutOf (now (file .entry)) (extentAt extents j)) frames (voiceIn voices j)) ⌝ }
+    ensures cells { λ _. ⌜ now (out .exit) ≡ laidFrom stored on (numbersFrom (bothAt times (cutOf (now (file .entry)) (extentAt extents i)) (voiceIn voices i) (cutOf (now (file .entry)) (extentAt extents j)) (voiceIn voices j)) 0 frames) (now (out .entry)) ⌝ }
+{
+    let first = extents[i];
+    let second = extents[j];
+    let from = first.from;
+    let to = first.to;
+    let start = second.from;
+    let stop = second.to;
+    let p = mix_pair(
+        &file[from..to],
+        voices[i],
+        first,
+        &file[start..stop],
+        voices[j],
+        second,
+        times,
+        frames,
+        out,
+        on,
+    );
+    let a = p.a;
+    let b = p.b;
+    let mut w = voices;
+    w[i] = a;
+    w[j] = b;
+    w
+}
+
+// A side begun: the voices after its first channels, and the next channel that sounds on it, or the count.
+struct Begun {
+    voices: [Voice; WIDTH],
+    next: usize,
+}
+
+// The first two channels that sound on a side, or the one, stored into its cells; zeros if there is none.
+fn begin(
+    channels: usize,
+    file: &[u8],
+    extents: [Extent; WIDTH],
+    voices: [Voice; WIDTH],
+    times: u32,
+    frames: usize,
+    out: &mut [i16],
+    on: usize,
+) -> Begun
+    requires sounding { ⌜ Sounding (now file) extents voices channels ⌝ }
+    requires fits { ⌜ (times ≤ 2) × (on < 2) × (frameNumbers * frames ≤ length (now out)) ⌝ }
+    ensures { λ r. ⌜ Siding (now (file .entry)) extents voices times on channels frames (now (out .entry)) (r .voices) (now (out .exit)) (r .next) ⌝ }
+{
+    let a = next(channels, voices, on, 0);
+    if channels <= a {
+        runs::store_zeros(frames, out, on);
+        return Begun {
+            voices,
+            next: channels,
+        };
+    }
+    let b = next(channels, voices, on, a + 1);
+    if channels <= b {
+        let one = mix_one(file, extents, voices, a, times, frames, out, on);
+        return Begun {
+            voices: one,
+            next: channels,
+        };
+    }
+    let two = mix_two(file, extents, voices, a, b, times, frames, out, on);
+    Begun {
+        voices: two,
+        next: next(channels, voices, on, b + 1),
+    }
+}
+
+// A side's frames, stored into its cells, and the voices after them.
+fn mix_side(
+    channels: usize,
+    file: &[u8],
+    extents: [Extent; WIDTH],
+    voices: [Voice; WIDTH],
+    times: u32,
+    frames: usize,
+    out: &mut [i16],
+    on: usize,
+) -> [Voice; WIDTH]
+    requires sounding { ⌜ Sounding (now file) extents voices channels ⌝ }
+    requires sides { ⌜ LegalSides channels times ⌝ }
+    requires fits { ⌜ (on < 2) × (frameNumbers * frames ≤ length (now out)) ⌝ }
+    ensures moved { λ r. ⌜ r ≡ sidedOf (now (file .entry)) extents voices frames on channels ⌝ }
+    ensures cells { λ _. ⌜ now (out .exit) ≡ laidFrom stored on (numbersFrom (sideAt (now (file .entry)) extents voices times on channels) 0 frames) (now (out .entry)) ⌝ }
+{
+    let begun = begin(channels, file, extents, voices, times, frames, out, on);
+    let mut w = begun.voices;
+    let mut i = begun.next;
+    while i < channels {
+        let extent = extents[i];
+        let from = extent.from;
+        let to = extent.to;
+        w[i] = mix_voice(&file[from..to], voices[i], extent, frames, out, on, times);
+        i = next(channels, voices, on, i + 1);
+    }
+    w
+}
+
+// The extents of the samples that the commands name.
+fn named(
+    channels: usize,
+    extents: [Extent; SAMPLE_NUMBERS],
+    commands: [Command; WIDTH],
+) -> [Extent; WIDTH]
+    requires { ⌜ channels ≤ width ⌝ }
+    requires { ⌜ ((i : ℕ) → i < channels → getD commands i nothing .sample < sampleNumbers) ⌝ }
+    ensures { λ r. ⌜ Filled (markAt extents commands) noExtent width r channels ⌝ }
+{
+    let none = extents[0];
+    let mut marks = [none; WIDTH];
+    let mut i = 0;
+    while i < channels {
+        let command = commands[i];
+        let k = command.sample as usize;
+        marks[i] = extents[k];
+        i += 1;
+    }
+    marks
+}
+
+// The voices told their commands.
+fn tell(
+    channels: usize,
+    extents: [Extent; WIDTH],
+    voices: [Voice; WIDTH],
+    commands: [Command; WIDTH],
+) -> [Voice; WIDTH]
+    requires { ⌜ channels ≤ width ⌝ }
+    requires { ⌜ ((i : ℕ) → i < channels → getD commands i nothing .offset < 256) ⌝ }
+    ensures { λ r. ⌜ r ≡ within (toldAt extents voices commands) blank channels width voices ⌝ }
+{
+    let mut w = voices;
+    let mut i = 0;
+    while i < channels {
+        w[i] = voices[i].told(commands[i], extents[i]);
+        i += 1;
+    }
+    w
+}
+
+// Whether every voice is silent.
+fn quiet(channels: usize, voices: [Voice; WIDTH]) -> bool
+    requires { ⌜ channels ≤ width ⌝ }
+    ensures { λ r. ⌜ r ≡ every (silentAt voices) channels ⌝ }
+{
+    let mut quiet = true;
+    let mut i = 0;
+    while i < channels {
+        quiet = quiet & voices[i].silent();
+        i += 1;
+    }
+    quiet
+}
+
 // A number of frames into the front of out, whose rest stays, and the voices after them.
 pub fn mix(
     layout: Layout,
@@ -109,19 +348,14 @@ pub fn mix(
     ensures moved { λ r. ⌜ r ≡ moved (layout .channels) (samplesIn (lent layout (now (file .entry))) extents) voices commands frames ⌝ }
     ensures mixed { λ _. ⌜ now (out .exit) ≡ mixed (layout .channels) (samplesIn (lent layout (now (file .entry))) extents) voices commands frames ++ drop (frameNumbers * frames) (now (out .entry)) ⌝ }
 {
-    clear(FRAME_NUMBERS * frames, out);
-    let times = scale(layout.channels);
-    let mut w = voices;
-    let mut i = 0;
-    while i < layout.channels {
-        let command = commands[i];
-        let k = command.sample as usize;
-        let extent = extents[k];
-        let from = extent.from;
-        let to = extent.to;
-        let voice = voices[i].told(command, extent);
-        w[i] = mix_voice(&file[from..to], voice, extent, frames, out, side(i), times);
-        i += 1;
+    let channels = layout.channels;
+    let marks = named(channels, extents, commands);
+    let told = tell(channels, marks, voices, commands);
+    if quiet(channels, told) {
+        runs::clear(FRAME_NUMBERS * frames, out);
+        return told;
     }
-    w
+    let times = scale(channels);
+    let left = mix_side(channels, file, marks, told, times, frames, out, 0);
+    mix_side(channels, file, marks, left, times, frames, out, 1)
 }

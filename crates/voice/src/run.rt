@@ -1,0 +1,269 @@
+// Two voices of a side in runs: up to the nearest end of either's sample both are lines through bytes, and a byte's number is found in a table.
+ghost use mathlib.Core.Path.{_≡_};
+ghost use mathlib.Core.List.{[]};
+ghost use Prim.Native.Nat.{_+_, _*_, _<_, _≤_};
+ghost use lib.ListN.{length};
+ghost use lib.Signed.{mag};
+ghost use Rattle.laws.specs.Ranges.{each};
+ghost use Rattle.runs.specs.Cells.{stride, numbersFrom, laidFrom, stored};
+ghost use Rattle.runs.specs.Lines.{Table, quarter16};
+ghost use Rattle.common.specs.Limits.{loudest};
+ghost use Rattle.voice.specs.Voice.{growthOf, fractions};
+ghost use Rattle.voice.specs.Modules.{sampleWith};
+ghost use Rattle.voice.specs.Frames.{stepsOf};
+ghost use Rattle.voice.specs.LegalFacts.{LegalSound, LoopInside};
+ghost use Rattle.voice.specs.Runs.{Span, limitOf, longest, aheadOf, Follows, productOf, Products, chosenOf, bothAt, Ran};
+use crate::FRACTIONS;
+use crate::Voice;
+use reader::Extent;
+
+// How many values a byte has.
+const BYTES: usize = 256;
+
+// A run takes at most so many bytes of a sample.
+const LONGEST: u32 = 65535;
+
+// A side's cells are every second one.
+const STRIDE: usize = 2;
+
+// A byte read as signed, times a weight.
+fn product(b: usize, weight: u32) -> i16
+    requires { ⌜ (b < 256) × (weight ≤ 128) ⌝ }
+    ensures value { λ r. ⌜ r ≡ productOf weight b ⌝ }
+    ensures range { λ r. ⌜ mag r < quarter16 ⌝ }
+{
+    crate::signed(b as u8) * weight as i16
+}
+
+// Those of all bytes.
+fn table(weight: u32) -> [i16; BYTES]
+    requires { ⌜ weight ≤ 128 ⌝ }
+    ensures { λ r. ⌜ r ≡ each (productOf weight) 256 ⌝ }
+{
+    let mut t = [0i16; BYTES];
+    let mut b = 0;
+    while b < BYTES {
+        let y = product(b, weight);
+        t[b] = y;
+        b += 1;
+    }
+    t
+}
+
+// The table of a run: zeros where it is quiet.
+fn chosen<'a>(quiet: bool, zeros: &'a [i16], table: &'a [i16]) -> &'a [i16]
+    ensures { λ r. ⌜ now r ≡ chosenOf quiet (now (zeros .entry)) (now (table .entry)) ⌝ }
+{
+    if quiet {
+        return zeros;
+    }
+    table
+}
+
+// How many of the frames that are left begin within so many bytes.
+fn span(fraction: u32, growth: u32, bytes: u32, left: usize) -> usize
+    requires { ⌜ (fraction < bytes * fractions) × (bytes ≤ longest) × (0 < growth) × (0 < left) ⌝ }
+    ensures { λ r. ⌜ Span fraction growth (bytes * fractions) left r ⌝ }
+{
+    let n = ((bytes * FRACTIONS - 1 - fraction) / growth) as usize;
+    if n < left {
+        return n + 1;
+    }
+    left
+}
+
+// Where the run that begins at index ends: bytes 0 and 1 are a run of their own.
+fn limit(index: u32, end: u32) -> u32
+    ensures { λ r. ⌜ r ≡ limitOf index end ⌝ }
+{
+    if index < 2 {
+        if end < 2 {
+            return end;
+        }
+        return 2;
+    }
+    end
+}
+
+// How many bytes that run takes.
+fn ahead(index: u32, end: u32) -> u32
+    requires { ⌜ index < end ⌝ }
+    ensures { λ r. ⌜ r ≡ aheadOf index end ⌝ }
+{
+    let n = limit(index, end) - index;
+    if n < LONGEST {
+        return n;
+    }
+    LONGEST
+}
+
+// A voice's next frames as a line through its sample's bytes, from its index on. In a quiet one every byte counts as 0.
+struct Line {
+    quiet: bool,
+    growth: usize,
+    count: usize,
+}
+
+fn follow(voice: Voice, extent: Extent, growth: u32, left: usize) -> Line
+    requires legal { ⌜ LegalSound (extent .end) voice ⌝ }
+    requires growing { ⌜ (growth ≡ growthOf (voice .period)) × (growth < fractions) ⌝ }
+    requires some { ⌜ 0 < left ⌝ }
+    ensures line { λ r. ⌜ Follows extent voice (r .quiet) (r .growth) (r .count) ⌝ }
+    ensures most { λ r. ⌜ r .count ≤ left ⌝ }
+{
+    if voice.silent() {
+        return Line {
+            quiet: true,
+            growth: 0,
+            count: left,
+        };
+    }
+    let index = voice.index;
+    let n = span(voice.fraction, growth, ahead(index, extent.end), left);
+    Line {
+        quiet: index < 2,
+        growth: growth as usize,
+        count: n,
+    }
+}
+
+// The voice after the first n frames of its line.
+fn after(voice: Voice, extent: Extent, growth: u32, line: Line, n: usize) -> Voice
+    requires legal { ⌜ LegalSound (extent .end) voice ⌝ }
+    requires growing { ⌜ (growth ≡ growthOf (voice .period)) × (growth < fractions) ⌝ }
+    requires line { ⌜ Follows extent voice (line .quiet) (line .growth) (line .count) ⌝ }
+    requires some { ⌜ (0 < n) × (n ≤ line .count) ⌝ }
+    ensures { λ r. ⌜ r ≡ stepsOf (sampleWith [] extent) n voice ⌝ }
+{
+    voice.land(
+        voice.fraction as usize + (n - 1) * line.growth,
+        growth,
+        extent,
+    )
+}
+
+fn least(x: usize, y: usize) -> usize
+    requires { ⌜ (0 < x) × (0 < y) ⌝ }
+    ensures { λ r. ⌜ (r ≤ x) × (r ≤ y) × (0 < r) ⌝ }
+{
+    if x < y { x } else { y }
+}
+
+// Two voices after a number of frames.
+pub struct Pair {
+    pub a: Voice,
+    pub b: Voice,
+    pub frames: usize,
+}
+
+// Some of the frames that are left, of two voices, stored into a side's cells from `at` on.
+fn mix_run<'a>(
+    a: &[u8],
+    v: Voice,
+    ea: Extent,
+    ga: u32,
+    ta: &'a [i16],
+    b: &[u8],
+    u: Voice,
+    eb: Extent,
+    gb: u32,
+    tb: &'a [i16],
+    zeros: &'a [i16],
+    left: usize,
+    out: &mut [i16],
+    at: usize,
+) -> Pair
+    requires first { ⌜ LegalSound (ea .end) v ⌝ }
+    requires second { ⌜ LegalSound (eb .end) u ⌝ }
+    requires growing { ⌜ (ga ≡ growthOf (v .period)) × (ga < fractions) × (gb ≡ growthOf (u .period)) × (gb < fractions) ⌝ }
+    requires wholea { ⌜ (ea .end ≤ length (now a)) × (0 < length (now a)) ⌝ }
+    requires wholeb { ⌜ (eb .end ≤ length (now b)) × (0 < length (now b)) ⌝ }
+    requires tables { ⌜ Table (now ta) × Table (now tb) ⌝ }
+    requires zeros { ⌜ Products 0 (now zeros) ⌝ }
+    requires fits { ⌜ (0 < left) × (at + stride * left ≤ length (now out) + 1) ⌝ }
+    ensures { λ r. ⌜ Ran (now (a .entry)) ea v (now (ta .entry)) (now (b .entry)) eb u (now (tb .entry)) left at (now (out .entry)) (now (out .exit)) (r .a) (r .b) (r .frames) ⌝ }
+{
+    let x = follow(v, ea, ga, left);
+    let y = follow(u, eb, gb, left);
+    let n = least(x.count, y.count);
+    let i = v.index as usize;
+    let j = u.index as usize;
+    let fa = v.fraction as usize;
+    let fb = u.fraction as usize;
+    runs::store_pair(
+        &a[i..],
+        chosen(x.quiet, zeros, ta),
+        fa,
+        x.growth,
+        &b[j..],
+        chosen(y.quiet, zeros, tb),
+        fb,
+        y.growth,
+        n,
+        out,
+        at,
+    );
+    Pair {
+        a: after(v, ea, ga, x, n),
+        b: after(u, eb, gb, y, n),
+        frames: n,
+    }
+}
+
+// The frames of two voices of a side, stored into its cells, and the voices after them.
+pub fn mix_pair(
+    a: &[u8],
+    v: Voice,
+    ea: Extent,
+    b: &[u8],
+    u: Voice,
+    eb: Extent,
+    times: u32,
+    frames: usize,
+    out: &mut [i16],
+    side: usize,
+) -> Pair
+    requires loops { ⌜ LoopInside (sampleWith (now a) ea) × LoopInside (sampleWith (now b) eb) ⌝ }
+    requires legal { ⌜ LegalSound (ea .end) v × LegalSound (eb .end) u ⌝ }
+    requires wholea { ⌜ (ea .end ≤ length (now a)) × (0 < length (now a)) ⌝ }
+    requires wholeb { ⌜ (eb .end ≤ length (now b)) × (0 < length (now b)) ⌝ }
+    requires fits { ⌜ (times ≤ 2) × (side < 2) × (stride * frames ≤ length (now out)) ⌝ }
+    ensures first { λ r. ⌜ r .a ≡ stepsOf (sampleWith (now (a .entry)) ea) frames v ⌝ }
+    ensures second { λ r. ⌜ r .b ≡ stepsOf (sampleWith (now (b .entry)) eb) frames u ⌝ }
+    ensures cells { λ _. ⌜ now (out .exit) ≡ laidFrom stored side (numbersFrom (bothAt times (sampleWith (now (a .entry)) ea) v (sampleWith (now (b .entry)) eb) u) 0 frames) (now (out .entry)) ⌝ }
+{
+    let zeros = [0i16; BYTES];
+    let ta = table(v.volume * times);
+    let tb = table(u.volume * times);
+    let ga = crate::rate(v.period);
+    let gb = crate::rate(u.period);
+    let mut x = v;
+    let mut y = u;
+    let mut k = 0;
+    while k < frames {
+        let p = mix_run(
+            a,
+            x,
+            ea,
+            ga,
+            &ta,
+            b,
+            y,
+            eb,
+            gb,
+            &tb,
+            &zeros,
+            frames - k,
+            out,
+            side + STRIDE * k,
+        );
+        x = p.a;
+        y = p.b;
+        k += p.frames;
+    }
+    Pair {
+        a: x,
+        b: y,
+        frames: k,
+    }
+}
