@@ -30,18 +30,20 @@ use Rattle.voice.specs.Runs.{soundAt, Span, limitOf, longest, aheadOf, w
 use Rattle.voice.proofs.Voices.{gives-silent}
 
 -- ---- how far a run goes
-module _ (from growth limit left n : ℕ) (h : from < limit) (q : n ≡ (limit - 1 - from) / growth) where
-  far : (j : ℕ) → j ≤ n → from + j * growth < limit
-  far j l = omega (arith, mul-le-mul-right growth l, rw (← q) at (div-mul-le-self (limit - 1 - from) growth))
+module _ (from growth limit left n : ℕ) (h : from < limit) (q : n ≡ (limit - 1 - from) / growth + 1) where
+  far : (j : ℕ) → j < n → from + j * growth < limit
+  far j l =
+      let k : j ≤ (limit - 1 - from) / growth = omega arith in
+      omega (arith, mul-le-mul-right growth k, div-mul-le-self (limit - 1 - from) growth)
 
-  pub span-short : n < left → Span from growth limit left (n + 1)
+  pub span-short : n < left → Span from growth limit left n
   span-short l = record { some = omega arith; most = omega arith; below = λ j i. far j (omega arith) }
 
   pub span-left : left ≤ n → 0 < left → Span from growth limit left left
   span-left l z = record { some = z; most = omega arith; below = λ j i. far j (omega arith) }
 
-pub span-fits : (bytes fraction growth : ℕ) → bytes ≤ longest → Fits w64 ((bytes * fractions - 1 - fraction) / growth)
-span-fits bytes fraction growth h = record { fits = omega (arith, div-le-self (bytes * fractions - 1 - fraction) growth) }
+pub span-low : (bytes fraction growth : ℕ) → bytes ≤ longest → (bytes * fractions - 1 - fraction) / growth < half64
+span-low bytes fraction growth h = omega (arith, div-le-self (bytes * fractions - 1 - fraction) growth)
 
 -- ---- where it ends
 limit-above : (i end : ℕ) → i < end → i < limitOf i end

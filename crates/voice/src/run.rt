@@ -65,9 +65,9 @@ fn span(fraction: u32, growth: u32, bytes: u32, left: usize) -> usize
     requires { ⌜ (fraction < bytes * fractions) × (bytes ≤ longest) × (0 < growth) × (0 < left) ⌝ }
     ensures { λ r. ⌜ Span fraction growth (bytes * fractions) left r ⌝ }
 {
-    let n = ((bytes * FRACTIONS - 1 - fraction) / growth) as usize;
+    let n = ((bytes * FRACTIONS - 1 - fraction) / growth) as usize + 1;
     if n < left {
-        return n + 1;
+        return n;
     }
     left
 }

@@ -15,6 +15,12 @@ Inv-loop channels voices quiet₀ i₀ quiet i = (channels ≤ width) × (i ≤ 
 abbrev μ-loop : tie.MeasureT-loop
 μ-loop channels voices quiet₀ i₀ quiet i = channels - i
 
+loop-again : tie.Need-loop-again Inv-loop μ-loop
+loop-again c = search (every-step, needs)
+
+returns : tie.Need-returns Inv-loop μ-loop
+returns c = search (every-end, needs)
+
 pub quiet-spec : {M : Type 1} → statement M
 quiet-spec =
     tie.close
@@ -27,5 +33,5 @@ quiet-spec =
     (λ c κs. search needs)
     (λ c. search needs)
     (λ c. search needs)
-    (λ c. search (every-step, needs))
-    (λ c. search (every-end, needs)))
+    loop-again
+    returns)
