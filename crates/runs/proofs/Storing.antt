@@ -18,7 +18,7 @@ use Rattle.runs.proofs.Sums.{sum-read}
 
 -- a place that has grown k times of n, and the next
 module _ (bytes : List ℕ) (from growth n k : ℕ) (m : Line bytes from growth n) (h : k < n) where
-  place-low : from + k * growth + growth < half64
+  pub place-low : from + k * growth + growth < half64
   place-low = omega (arith, m .low, suc-mul k growth, mul-le-mul-right growth h)
 
 -- the two halves of a word

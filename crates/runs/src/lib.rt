@@ -6,7 +6,7 @@ ghost use lib.ListN.{length, getD, drop, replicate};
 ghost use lib.IntN.{pos, _+ℤ_};
 ghost use lib.Signed.{mag};
 ghost use Rattle.runs.specs.Cells.{stride, numbersFrom, laidFrom, stored};
-ghost use Rattle.runs.specs.Lines.{Line, Table, quarter16, pairAt};
+ghost use Rattle.runs.specs.Lines.{Line, Table, half16, quarter16, Roomy, tableAt, pairAt};
 use common::bytes::wide;
 
 // A side's cells are every second one.
@@ -56,9 +56,19 @@ fn look(table: &[i16], byte: u8) -> i16
 fn sum(x: i16, y: i16) -> i16
     requires { ⌜ (mag x < quarter16) × (mag y < quarter16) ⌝ }
     ensures value { λ r. ⌜ r ≡ x +ℤ y ⌝ }
-    ensures range { λ r. ⌜ mag r < 32768 ⌝ }
+    ensures range { λ r. ⌜ mag r < half16 ⌝ }
 {
     x + y
+}
+
+// A cell with a table's number of a byte added.
+fn add(x: i16, table: &[i16], byte: u8) -> i16
+    requires table { ⌜ Table (now table) ⌝ }
+    requires room { ⌜ (mag x < half16) × (mag (x +ℤ getD (now table) byte (pos 0)) < half16) ⌝ }
+    ensures value { λ r. ⌜ r ≡ x +ℤ getD (now (table .entry)) byte (pos 0) ⌝ }
+    ensures range { λ r. ⌜ mag r < half16 ⌝ }
+{
+    x + look(table, byte)
 }
 
 // Two lines through bytes: what their tables have for the bytes, summed and stored into a side's cells from `at` on.
@@ -92,6 +102,35 @@ pub fn store_pair(
         let y = sum(look(ta, a[i]), look(tb, b[j]));
         out[cell] = y;
         places += growth;
+        k += 1;
+    }
+}
+
+// A line through bytes: what its table has for the bytes, added to a side's cells from `at` on.
+pub fn add_line(
+    a: &[u8],
+    ta: &[i16],
+    fa: usize,
+    ga: usize,
+    count: usize,
+    out: &mut [i16],
+    at: usize,
+)
+    requires table { ⌜ Table (now ta) ⌝ }
+    requires line { ⌜ Line (now a) fa ga count ⌝ }
+    requires room { ⌜ Roomy (now ta) (now out) at count ⌝ }
+    requires fits { ⌜ at + stride * count ≤ length (now out) + 1 ⌝ }
+    ensures { λ _. ⌜ now (out .exit) ≡ laidFrom _+ℤ_ at (numbersFrom (tableAt (now (ta .entry)) (now (a .entry)) fa ga) 0 count) (now (out .entry)) ⌝ }
+{
+    let mut place = fa;
+    let mut k = 0;
+    while k < count {
+        let cell = at + STRIDE * k;
+        let i = place / PARTS;
+        let x = out[cell];
+        let y = add(x, ta, a[i]);
+        out[cell] = y;
+        place += ga;
         k += 1;
     }
 }

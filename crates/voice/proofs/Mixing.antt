@@ -120,9 +120,6 @@ module _ {file : List ℕ} {xs : List Extent} {vs : List Voice} {times side c n 
   further-fits = (m .fits .0, omega (arith, m .fits .1, further-same))
 
   module _ (h : i < c) where
-    pub further-low : i < width
-    further-low = omega (arith, m .sounding .few)
-
     pub further-order : extentAt xs i .from ≤ extentAt xs i .to
     further-order = m .sounding .at i h .order
 
@@ -131,6 +128,12 @@ module _ {file : List ℕ} {xs : List Extent} {vs : List Voice} {times side c n 
 
     pub further-loop : LoopInside (cutOf file (extentAt xs i))
     further-loop = voiced-loop file (extentAt xs i) (voiceIn vs i) (m .sounding .at i h)
+
+    pub further-whole : extentAt xs i .end ≤ length (take (extentAt xs i .to - extentAt xs i .from) (drop (extentAt xs i .from) file))
+    further-whole = voiced-whole file (extentAt xs i) (voiceIn vs i) (m .sounding .at i h)
+
+    pub further-some : 0 < length (take (extentAt xs i .to - extentAt xs i .from) (drop (extentAt xs i .from) file))
+    further-some = omega (arith, further-whole, loud-index (extentAt xs i .end) (voiceIn vs i) (m .sounding .at i h .legal) (sounds-loud side i (voiceIn vs i) (m .siding .there h)))
 
     pub further-legal : LegalSound (extentAt xs i .end) (voiceIn vs i)
     further-legal = m .sounding .at i h .legal

@@ -4,7 +4,7 @@ use mathlib.Core.Path.{_≡_, refl, sym, ap, ap₂, subst, _∙_}
 use mathlib.Core.Bool.{Bool, false}
 use mathlib.Core.List.{List, []}
 use Prim.Native.Nat.{ℕ, zero, suc, _+_, _-_, _*_, _/_, _^_, _≤_, _<_}
-use native.Mathlib.Nat.{zero-add, suc-add, add-comm, add-zero, mul-le-mul-right}
+use native.Mathlib.Nat.{zero-add, suc-add, add-comm, add-zero, mul-le-mul-right, le-refl}
 use native.Mathlib.Omega.{arith}
 use lib.ListN.{length, getD, take, drop, length-drop}
 use lib.IntN.{ℤ, pos, _+ℤ_, _*ℤ_}
@@ -24,7 +24,7 @@ use Rattle.voice.specs.Modules.{sampleWith}
 use Rattle.voice.specs.Frames.{stepsOf, givesAt}
 use Rattle.voice.specs.LegalFacts.{LegalSound, LoopInside}
 use Rattle.voice.specs.Kept.{sound-steps, steps-period, steps-volume}
-use Rattle.voice.specs.Runs.{soundAt, weightOf, landOf, Follows, Products, chosenOf, oneAt, bothAt, Ran}
+use Rattle.voice.specs.Runs.{soundAt, weightOf, landOf, Follows, Products, chosenOf, oneAt, bothAt, Ran, Added}
 use Rattle.voice.proofs.Lines.{steps-bytes}
 use Rattle.voice.proofs.Tables.{table-sounds}
 
@@ -90,6 +90,16 @@ ran a x v ta b y u tb zs ra rb left at {qa} {qb} {ga} {ca} {gb} {cb} f g n h k z
           ∙ ap (λ xs. laidFrom stored at xs old) (numbers-same _ _ n 0 0 (λ j i. rw (add-zero j) (ap₂ _+ℤ_ (cut-sounds x v qa ga ca f n h a ba zs ta ra p ea times q j i) (cut-sounds y u qb gb cb g n k b bb zs tb rb p eb times r j i))));
     }
 
+-- and of one that is added
+pub added : (a : List ℕ) (x : Extent) (v : Voice) (t zs r : List ℤ) (left at : ℕ) {quiet : Bool} {growth count : ℕ} → Follows x v quiet growth count → count ≤ left → Bytes a → Products 0 zs → r ≡ chosenOf quiet zs t → (old new : List ℤ) → new ≡ laidFrom _+ℤ_ at (numbersFrom (tableAt r (tailOf (v .index) a) (v .fraction) growth) 0 count) old → (v′ : Voice) → v′ ≡ stepsOf (sampleWith [] x) count v → Added a x v t left at old new v′ count
+added a x v t zs r left at {quiet} {growth} {count} f most b p e old new z v′ d =
+    record {
+      some = f .some;
+      most = most;
+      moved = steps-bytes a x count v v′ d;
+      cells = λ times q. z ∙ ap (λ xs. laidFrom _+ℤ_ at xs old) (numbers-same _ _ count 0 0 (λ j i. rw (add-zero j) (cut-sounds x v quiet growth count f count (le-refl count) a b zs t r p e times q j i)));
+    }
+
 -- ---- the loop over the runs
 steps-add : (s : Sample) (m k : ℕ) (v : Voice) → stepsOf s (m + k) v ≡ stepsOf s m (stepsOf s k v)
 unfolding stepsOf
@@ -123,7 +133,7 @@ module _ (s : Sample) (v₀ v : Voice) (g k : ℕ) (m : Moving s v₀ v g k) whe
   unfolding oneAt
   moving-gives times j = ap (λ t. givesOf (s .bytes) t *ℤ pos times) (ap (stepsOf s j) (m .voice) ∙ sym (steps-add s j k v₀))
 
-  moving-volume : (t : List ℤ) (times : ℕ) → Products (v₀ .volume * times) t → Products (v .volume * times) t
+  pub moving-volume : (t : List ℤ) (times : ℕ) → Products (v₀ .volume * times) t → Products (v .volume * times) t
   moving-volume t times p = subst (λ w. Products (w * times) t) (sym (ap (λ (x : Voice). x .volume) (m .voice) ∙ steps-volume s v₀ k)) p
 
   pub moving-end : (n : ℕ) → n ≤ k → k ≤ n → v ≡ stepsOf s n v₀

@@ -2,8 +2,8 @@
 use mathlib.Core.Path.{_≡_, refl, sym, ap, ap₂, subst, _∙_}
 use mathlib.Core.Bool.{Bool, true, false, cond}
 use mathlib.Core.List.{List}
-use Prim.Native.Nat.{ℕ, zero, suc, _*_, _≤_, _<_}
-use native.Mathlib.Nat.{zero-mul, mul-assoc, mul-le-mul}
+use Prim.Native.Nat.{ℕ, zero, suc, _+_, _*_, _≤_, _<_}
+use native.Mathlib.Nat.{zero-mul, mul-assoc, mul-le-mul, mul-le-mul-right}
 use native.Mathlib.Omega.{arith}
 use lib.Dec.{lit<}
 use lib.ListN.{length, getD, replicate, length-replicate}
@@ -16,9 +16,11 @@ use Rattle.laws.specs.Ranges.{each}
 use Rattle.laws.specs.Each.{length-each, getD-each, getD-replicate}
 use Rattle.common.specs.Limits.{loudest}
 use Rattle.common.specs.ByteLaws.{Bytes}
-use Rattle.runs.specs.Lines.{quarter16, byteOf, Table, tableAt}
+use Rattle.runs.specs.Cells.{stride}
+use Rattle.runs.specs.Lines.{quarter16, byteOf, Table, Roomy, tableAt}
 use Rattle.voice.specs.Voice.{signedOf}
-use Rattle.voice.specs.Range.{signed-range}
+use Rattle.voice.specs.Range.{greatestGiven, signed-range}
+use Rattle.voice.specs.Adding.{Room}
 use Rattle.voice.specs.Runs.{soundAt, weightOf, productOf, Products, chosenOf}
 
 -- ---- a signed byte r times a weight
@@ -58,6 +60,17 @@ module _ (weight : ℕ) (t : List ℤ) (e : t ≡ each (productOf weight) 256) w
         small = λ b h. subst (λ z. mag z < quarter16) (sym (table-products .at b h)) (product-small (signedOf b) weight (signed-range b h) low);
       }
 
+  -- its numbers are below what the loudest voice gives, so many times
+  table-bound : (volume times : ℕ) → weight ≡ volume * times → volume ≤ loudest → 0 < times → (b : ℕ) → b < 256 → mag (getD t b (pos 0)) < greatestGiven * times
+  unfolding productOf
+  table-bound volume times q h z b l =
+      subst (λ y. mag y < greatestGiven * times) (sym (table-products .at b l))
+      (rw q (omega (arith, mag-mul (signedOf b) (volume * times) {b = loudest * times} (signed-range b l) (mul-le-mul-right times h) (omega arith))))
+
+-- a cell with room for the loudest voice has room for a table's numbers
+pub table-roomy : (volume times : ℕ) (t out : List ℤ) (at n : ℕ) → t ≡ each (productOf (volume * times)) 256 → volume ≤ loudest → 0 < times → ((j : ℕ) → j < n → Room times (getD out (at + stride * j) (pos 0))) → Roomy t out at n
+table-roomy volume times t out at n e h z r = record { bound = greatestGiven * times; small = table-bound (volume * times) t e volume times refl h z; room = r }
+
 pub zeros-products : (t : List ℤ) → t ≡ replicate 256 (pos 0) → Products 0 t
 unfolding productOf
 zeros-products t e =
@@ -78,6 +91,15 @@ module _ (quiet : Bool) (z t r : List ℤ) (m : Products 0 z) (e : r ≡ chosenO
       go : (q : Bool) → Table (cond q z t)
       go true = zeros-table z m
       go false = h
+
+  pub chosen-roomy : (out : List ℤ) (at left n : ℕ) → Roomy t out at left → n ≤ left → Roomy r out at n
+  unfolding chosenOf productOf
+  chosen-roomy out at left n h l =
+      record { bound = h .bound; small = λ b k. subst (λ y. mag (getD y b (pos 0)) < h .bound) (sym e) (go quiet b k); room = λ j k. h .room j (omega arith) }
+    where
+      go : (q : Bool) (b : ℕ) → b < 256 → mag (getD (cond q z t) b (pos 0)) < h .bound
+      go true b k = subst (λ y. mag y < h .bound) (sym (m .at b k ∙ *ℤ-zero (signedOf b))) (omega (arith, h .small b k))
+      go false b k = h .small b k
 
   chosen-products : (weight : ℕ) → Products weight t → Products (weightOf quiet weight) r
   unfolding chosenOf weightOf

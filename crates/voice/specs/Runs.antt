@@ -86,3 +86,10 @@ pub record Ran (a : List ℕ) (x : Extent) (v : Voice) (ta : List ℤ) (b : List
   pub first : v′ ≡ stepsOf (sampleWith a x) n v
   pub second : u′ ≡ stepsOf (sampleWith b y) n u
   pub cells : (times : ℕ) → Products (v .volume * times) ta → Products (u .volume * times) tb → new ≡ laidFrom stored at (numbersFrom (bothAt times (sampleWith a x) v (sampleWith b y) u) 0 n) old
+
+-- n frames of one voice, of those that are left and at least one, added from `at` on by a table of products
+pub record Added (a : List ℕ) (x : Extent) (v : Voice) (t : List ℤ) (left at : ℕ) (old new : List ℤ) (v′ : Voice) (n : ℕ) : Type 0 where
+  pub some : 0 < n
+  pub most : n ≤ left
+  pub moved : v′ ≡ stepsOf (sampleWith a x) n v
+  pub cells : (times : ℕ) → Products (v .volume * times) t → new ≡ laidFrom _+ℤ_ at (numbersFrom (oneAt times (sampleWith a x) v) 0 n) old

@@ -1,26 +1,24 @@
 // Mixing voices into frames, a side at a time. The first two channels that sound on a side are stored, further ones added to them.
 ghost use mathlib.Core.Path.{_≡_};
-ghost use mathlib.Core.List.{_++_, []};
+ghost use mathlib.Core.List.{_++_};
 ghost use Prim.Native.Nat.{ℕ, _+_, _*_, _<_, _≤_};
 ghost use lib.ListN.{length, getD, drop, set};
-ghost use lib.IntN.{pos, _+ℤ_, _*ℤ_};
 ghost use Rattle.laws.specs.Ranges.{every, within};
 ghost use Rattle.laws.specs.Each.{Filled};
-ghost use Rattle.common.specs.Limits.{width, loudest, sampleNumbers};
+ghost use Rattle.common.specs.Limits.{width, sampleNumbers};
 ghost use Rattle.runs.specs.Cells.{numbersFrom, laidFrom, stored};
 ghost use Rattle.reader.specs.File.{lent};
 ghost use Rattle.reader.specs.Samples.{noExtent};
 ghost use Rattle.reader.specs.Layouts.{LegalLayout};
 ghost use Rattle.ticks.specs.Commands.{nothing};
-ghost use Rattle.voice.specs.Voice.{givesOf, silentOf};
-ghost use Rattle.voice.specs.Modules.{sampleWith, samplesIn};
+ghost use Rattle.voice.specs.Modules.{samplesIn};
 ghost use Rattle.voice.specs.Frames.{stepsOf, sideOf, scaleOf, frameNumbers, blank, mixed, moved};
-ghost use Rattle.voice.specs.Adding.{Room};
 ghost use Rattle.voice.specs.Range.{LegalSides};
-ghost use Rattle.voice.specs.LegalFacts.{LegalSound, LoopInside, Ready};
+ghost use Rattle.voice.specs.LegalFacts.{Ready};
 ghost use Rattle.voice.specs.Runs.{oneAt, bothAt};
 ghost use Rattle.voice.specs.Sides.{cutOf, Voiced, extentAt, voiceIn, Sounding, sideAt, sidedOf, soundsOf, Next, Siding, markAt, toldAt, silentAt};
 use crate::Voice;
+use crate::run::add_voice;
 use crate::run::mix_pair;
 use common::limits::SAMPLE_NUMBERS;
 use common::limits::WIDTH;
@@ -33,45 +31,6 @@ pub const FRAME_NUMBERS: usize = 2;
 
 // With up to so many channels a side is twice the sum, with more the plain sum.
 const DOUBLED_TO: usize = 4;
-
-// A cell with so many times what the voice gives added.
-fn cell(x: i16, voice: Voice, bytes: &[u8], times: u32) -> i16
-    requires { ⌜ (voice .volume ≤ loudest) × Room times x ⌝ }
-    ensures { λ r. ⌜ r ≡ x +ℤ givesOf (now (bytes .entry)) voice *ℤ pos times ⌝ }
-{
-    x + voice.gives(bytes) * times as i16
-}
-
-// A voice's frames, added to the cells of its side, and the voice after them.
-fn mix_voice(
-    bytes: &[u8],
-    voice: Voice,
-    extent: Extent,
-    frames: usize,
-    out: &mut [i16],
-    side: usize,
-    times: u32,
-) -> Voice
-    requires looping { ⌜ LoopInside (sampleWith (now bytes) extent) ⌝ }
-    requires legal { ⌜ LegalSound (extent .end) voice ⌝ }
-    requires fits { ⌜ (side < 2) × (frameNumbers * frames ≤ length (now out)) ⌝ }
-    requires room { ⌜ ((k : ℕ) → k < frames → Room times (getD (now out) (side + frameNumbers * k) (pos 0))) ⌝ }
-    ensures moved { λ r. ⌜ r ≡ stepsOf (sampleWith (now (bytes .entry)) extent) frames voice ⌝ }
-    ensures added { λ _. ⌜ now (out .exit) ≡ laidFrom _+ℤ_ side (numbersFrom (oneAt times (sampleWith (now (bytes .entry)) extent) voice) 0 frames) (now (out .entry)) ⌝ }
-{
-    let g = crate::rate(voice.period);
-    let mut w = voice;
-    let mut k = 0;
-    while k < frames {
-        let at = side + FRAME_NUMBERS * k;
-        let x = out[at];
-        let y = cell(x, w, bytes, times);
-        out[at] = y;
-        w = w.step(g, extent);
-        k += 1;
-    }
-    w
-}
 
 // The side that channel i, from 0, is on.
 fn side(i: usize) -> usize
@@ -270,7 +229,7 @@ fn mix_side(
         let extent = extents[i];
         let from = extent.from;
         let to = extent.to;
-        w[i] = mix_voice(&file[from..to], voices[i], extent, frames, out, on, times);
+        w[i] = add_voice(&file[from..to], voices[i], extent, times, frames, out, on);
         i = next(channels, voices, on, i + 1);
     }
     w

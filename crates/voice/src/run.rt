@@ -1,18 +1,20 @@
-// Two voices of a side in runs: up to the nearest end of either's sample both are lines through bytes, and a byte's number is found in a table.
+// Voices in runs: up to its sample's end a voice is a line through bytes, and a byte's number is found in a table. Two voices of a side are stored
+// together, up to the nearest end of either; a further one is added.
 ghost use mathlib.Core.Path.{_≡_};
 ghost use mathlib.Core.List.{[]};
-ghost use Prim.Native.Nat.{_+_, _*_, _<_, _≤_};
-ghost use lib.ListN.{length};
+ghost use Prim.Native.Nat.{ℕ, _+_, _*_, _<_, _≤_};
+ghost use lib.ListN.{length, getD};
+ghost use lib.IntN.{pos, _+ℤ_};
 ghost use lib.Signed.{mag};
 ghost use Rattle.laws.specs.Ranges.{each};
 ghost use Rattle.runs.specs.Cells.{stride, numbersFrom, laidFrom, stored};
-ghost use Rattle.runs.specs.Lines.{Table, quarter16};
-ghost use Rattle.common.specs.Limits.{loudest};
+ghost use Rattle.runs.specs.Lines.{Table, quarter16, Roomy};
 ghost use Rattle.voice.specs.Voice.{growthOf, fractions};
 ghost use Rattle.voice.specs.Modules.{sampleWith};
 ghost use Rattle.voice.specs.Frames.{stepsOf};
 ghost use Rattle.voice.specs.LegalFacts.{LegalSound, LoopInside};
-ghost use Rattle.voice.specs.Runs.{Span, limitOf, longest, aheadOf, Follows, productOf, Products, chosenOf, bothAt, Ran};
+ghost use Rattle.voice.specs.Runs.{Span, limitOf, longest, aheadOf, Follows, productOf, Products, chosenOf, oneAt, bothAt, Ran, Added};
+ghost use Rattle.voice.specs.Adding.{Room};
 use crate::FRACTIONS;
 use crate::Voice;
 use reader::Extent;
@@ -208,6 +210,93 @@ fn mix_run<'a>(
         b: after(u, eb, gb, y, n),
         frames: n,
     }
+}
+
+// One voice after a number of frames.
+struct Single {
+    voice: Voice,
+    frames: usize,
+}
+
+// Some of the frames that are left, of one voice, added to a side's cells from `at` on.
+fn add_run<'a>(
+    a: &[u8],
+    v: Voice,
+    ea: Extent,
+    ga: u32,
+    ta: &'a [i16],
+    zeros: &'a [i16],
+    left: usize,
+    out: &mut [i16],
+    at: usize,
+) -> Single
+    requires legal { ⌜ LegalSound (ea .end) v ⌝ }
+    requires growing { ⌜ (ga ≡ growthOf (v .period)) × (ga < fractions) ⌝ }
+    requires whole { ⌜ (ea .end ≤ length (now a)) × (0 < length (now a)) ⌝ }
+    requires table { ⌜ Table (now ta) ⌝ }
+    requires zeros { ⌜ Products 0 (now zeros) ⌝ }
+    requires room { ⌜ Roomy (now ta) (now out) at left ⌝ }
+    requires fits { ⌜ (0 < left) × (at + stride * left ≤ length (now out) + 1) ⌝ }
+    ensures { λ r. ⌜ Added (now (a .entry)) ea v (now (ta .entry)) left at (now (out .entry)) (now (out .exit)) (r .voice) (r .frames) ⌝ }
+{
+    let x = follow(v, ea, ga, left);
+    let n = x.count;
+    let i = v.index as usize;
+    let fa = v.fraction as usize;
+    runs::add_line(
+        &a[i..],
+        chosen(x.quiet, zeros, ta),
+        fa,
+        x.growth,
+        n,
+        out,
+        at,
+    );
+    Single {
+        voice: after(v, ea, ga, x, n),
+        frames: n,
+    }
+}
+
+// A voice's frames, added to the cells of its side, and the voice after them.
+pub fn add_voice(
+    bytes: &[u8],
+    voice: Voice,
+    extent: Extent,
+    times: u32,
+    frames: usize,
+    out: &mut [i16],
+    side: usize,
+) -> Voice
+    requires looping { ⌜ LoopInside (sampleWith (now bytes) extent) ⌝ }
+    requires legal { ⌜ LegalSound (extent .end) voice ⌝ }
+    requires whole { ⌜ (extent .end ≤ length (now bytes)) × (0 < length (now bytes)) ⌝ }
+    requires fits { ⌜ (0 < times) × (times ≤ 2) × (side < 2) × (stride * frames ≤ length (now out)) ⌝ }
+    requires room { ⌜ ((k : ℕ) → k < frames → Room times (getD (now out) (side + stride * k) (pos 0))) ⌝ }
+    ensures moved { λ r. ⌜ r ≡ stepsOf (sampleWith (now (bytes .entry)) extent) frames voice ⌝ }
+    ensures added { λ _. ⌜ now (out .exit) ≡ laidFrom _+ℤ_ side (numbersFrom (oneAt times (sampleWith (now (bytes .entry)) extent) voice) 0 frames) (now (out .entry)) ⌝ }
+{
+    let zeros = [0i16; BYTES];
+    let products = table(voice.volume * times);
+    let g = crate::rate(voice.period);
+    let mut w = voice;
+    let mut k = 0;
+    while k < frames {
+        let p = add_run(
+            bytes,
+            w,
+            extent,
+            g,
+            &products,
+            &zeros,
+            frames - k,
+            out,
+            side + STRIDE * k,
+        );
+        w = p.voice;
+        k += p.frames;
+    }
+    w
 }
 
 // The frames of two voices of a side, stored into its cells, and the voices after them.

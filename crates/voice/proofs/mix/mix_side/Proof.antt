@@ -8,7 +8,7 @@ use lib.ListN.{getD}
 use lib.IntN.{ℤ}
 use Rattle.voice.specs.declared.Voice.{Voice}
 use Rattle.voice.specs.Sides.{Sounding, Siding}
-use Rattle.voice.proofs.Mixing.{Continuing, further-same, further-fits, further-order, further-inside, further-loop, further-legal, further-room, further-more, further-voices, further-cells}
+use Rattle.voice.proofs.Mixing.{Continuing, further-same, further-fits, further-order, further-inside, further-loop, further-whole, further-some, further-legal, further-room, further-more, further-voices, further-cells}
 use Rattle.voice.proofs.mix.mix_side.Statement.{statement}
 use Rattle.voice.proofs.mix.mix_side.Tie as tie
 
@@ -31,15 +31,15 @@ begun c s = let p = c .before .before .before .pre in record { sounding = p .0; 
 loop-holds : tie.Need-loop-holds Inv-loop μ-loop
 loop-holds c = (c .before .before .before .before .before .pre .0, λ old m. m)
 
-mix-voice-requires : tie.Need-mix-voice-requires Inv-loop μ-loop
-mix-voice-requires c κs =
+add-voice-requires : tie.Need-add-voice-requires Inv-loop μ-loop
+add-voice-requires c κs =
     let m = c .before .before .before .before .before .loop .inv .1 _ (begun (c .before .before .before .before .before .before .before .before) (c .before .before .before .before .before .before .before .before .begin .ensures)) in
     let h = c .before .before .before .before .loop-test .taken in
-    (further-loop m h, (further-legal m h, (further-fits m, further-room m h)))
+    (further-loop m h, (further-legal m h, ((further-whole m h, further-some m h), ((m .sides .scale .0, m .sides .scale .1, further-fits m .0, further-fits m .1), further-room m h))))
 
 loop-again : tie.Need-loop-again Inv-loop μ-loop
 loop-again c =
-    let e = c .before .before .mix-voice .ensures in
+    let e = c .before .before .add-voice .ensures in
     (c .before .before .before .before .before .before .before .before .loop .inv .0, λ old m. further-more (c .before .before .before .before .before .before .before .before .loop .inv .1 old m) (c .before .before .before .before .before .before .before .loop-test .taken) (c .next .ensures) (e .0) (e .1))
 
 same-length : tie.Need-same-length Inv-loop μ-loop
@@ -65,7 +65,7 @@ mix-side-spec =
     (λ c. further-inside (c .before .before .loop .inv .1 _ (begun (c .before .before .before .before .before) (c .before .before .before .before .before .begin .ensures))) (c .before .loop-test .taken))
     (λ c. search needs)
     (λ c. search needs)
-    mix-voice-requires
+    add-voice-requires
     (λ c. search needs)
     (λ c. search needs)
     (λ c. search needs)
