@@ -224,9 +224,9 @@ fn add_run<'a>(
     v: Voice,
     ea: Extent,
     ga: u32,
+    left: usize,
     ta: &'a [i16],
     zeros: &'a [i16],
-    left: usize,
     out: &mut [i16],
     at: usize,
 ) -> Single
@@ -282,17 +282,9 @@ pub fn add_voice(
     let mut w = voice;
     let mut k = 0;
     while k < frames {
-        let p = add_run(
-            bytes,
-            w,
-            extent,
-            g,
-            &products,
-            &zeros,
-            frames - k,
-            out,
-            side + STRIDE * k,
-        );
+        let left = frames - k;
+        let at = side + STRIDE * k;
+        let p = add_run(bytes, w, extent, g, left, &products, &zeros, out, at);
         w = p.voice;
         k += p.frames;
     }
