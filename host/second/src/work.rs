@@ -135,14 +135,23 @@ fn flow_effect(module: &Module, state: &mut State, cell: &Cell, flow: &mut Flow)
     match (cell.effect, x) {
         (0xB, _) if cell.parameter < module.song_length => flow.position = Some(cell.parameter),
         (0xB, _) => flow.position = Some(0),
-        (0xD, _) if cell.parameter <= 63 => flow.row = Some(cell.parameter),
-        (0xD, _) => flow.row = Some(0),
+        (0xD, _) => flow.row = Some(break_row(x, y)),
         (0xE, 0x6) => pattern_loop(state, y, flow),
         (0xE, 0xE) => state.delay = y,
         (0xF, _) if cell.parameter == 0 => state.speed = 1,
         (0xF, _) if cell.parameter <= 31 => state.speed = cell.parameter,
         (0xF, _) => state.tempo = cell.parameter,
         _ => {}
+    }
+}
+
+/// The row of a break: x counts in tens, and y may be above 9.
+fn break_row(x: u32, y: u32) -> u32 {
+    let row = 10 * x + y;
+    if row <= 63 {
+        row
+    } else {
+        0
     }
 }
 

@@ -166,7 +166,11 @@ pub fn jump(random: &mut Random, song_length: u32) -> u32 {
 }
 
 pub fn break_to(random: &mut Random) -> u32 {
-    0xD00 + random.edge_or(&[0, 62, 63, 63, 64, 65, 255], 0, 63)
+    let edges = [
+        0x00, 0x09, 0x0A, 0x0F, 0x10, 0x25, 0x3F, 0x40, 0x5D, 0x5D, 0x5E, 0x62, 0x63, 0x63, 0x64,
+        0xFF,
+    ];
+    0xD00 + random.edge_or(&edges, 0, 0x6F)
 }
 
 pub fn speed(random: &mut Random) -> u32 {

@@ -1,6 +1,7 @@
 //! Seeded makers of files, states, touches and streams; the same seed always makes the same.
 
 mod bad_streams;
+pub mod breaks;
 mod cells;
 pub mod damage;
 pub mod draft;

@@ -1,5 +1,6 @@
 //! Generated modules, states, touches and streams: what holds of all of them.
 
+mod breaks;
 mod common;
 mod ends;
 mod lengths;

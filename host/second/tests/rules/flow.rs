@@ -89,7 +89,7 @@ fn the_last_ask_decides() {
 
 #[test]
 fn a_jump_asked_on_row_63_keeps_the_loop() {
-    let mut draft = fast(row(&[(0, 0, 0xD3E)]));
+    let mut draft = fast(row(&[(0, 0, 0xD62)]));
     draft.song_length = 1;
     draft.put(0, 62, 0, 0, 0, 0xE60);
     draft.put(0, 63, 0, 0, 0, 0xE61);
@@ -140,23 +140,58 @@ fn next_place(cells: &[(u32, u32, u32)], position: u32) -> [u32; 2] {
 fn jumps_and_breaks_in_any_order() {
     assert_eq!(next_place(&[(0, 0, 0xB02)], 0), [2, 0]);
     assert_eq!(next_place(&[(0, 0, 0xB03)], 1), [0, 0]);
-    assert_eq!(next_place(&[(0, 0, 0xD12)], 0), [1, 0x12]);
-    assert_eq!(next_place(&[(0, 0, 0xD12)], 2), [0, 0x12]);
-    assert_eq!(next_place(&[(0, 0, 0xD3F)], 0), [1, 63]);
-    assert_eq!(next_place(&[(0, 0, 0xD40)], 0), [1, 0]);
-    assert_eq!(next_place(&[(0, 0, 0xB02), (0, 0, 0xD12)], 0), [2, 0x12]);
-    assert_eq!(next_place(&[(0, 0, 0xD12), (0, 0, 0xB02)], 0), [2, 0x12]);
+    assert_eq!(next_place(&[(0, 0, 0xD12)], 0), [1, 12]);
+    assert_eq!(next_place(&[(0, 0, 0xD12)], 2), [0, 12]);
+    assert_eq!(next_place(&[(0, 0, 0xB02), (0, 0, 0xD12)], 0), [2, 12]);
+    assert_eq!(next_place(&[(0, 0, 0xD12), (0, 0, 0xB02)], 0), [2, 12]);
     assert_eq!(next_place(&[(0, 0, 0xB02), (0, 0, 0xB01)], 0), [1, 0]);
     assert_eq!(next_place(&[(0, 0, 0xB02), (0, 0, 0xBFF)], 1), [0, 0]);
-    assert_eq!(next_place(&[(0, 0, 0xD12), (0, 0, 0xD40)], 0), [1, 0]);
+    assert_eq!(next_place(&[(0, 0, 0xD12), (0, 0, 0xD64)], 0), [1, 0]);
     assert_eq!(next_place(&[(0, 0, 0xE61), (0, 0, 0xD07)], 0), [1, 7]);
     assert_eq!(next_place(&[(0, 0, 0xE61)], 2), [2, 0]);
     assert_eq!(next_place(&[], 2), [2, 1]);
 }
 
+/// The row to which D with this parameter goes.
+fn break_row(parameter: u32) -> u32 {
+    let [position, row] = next_place(&[(0, 0, 0xD00 + parameter)], 0);
+    assert_eq!(position, 1, "D{parameter:02X}");
+    row
+}
+
+#[test]
+fn a_break_counts_in_tens() {
+    for (parameter, row) in [
+        (0x00, 0),
+        (0x09, 9),
+        (0x10, 10),
+        (0x25, 25),
+        (0x37, 37),
+        (0x40, 40),
+        (0x62, 62),
+        (0x63, 63),
+    ] {
+        assert_eq!(break_row(parameter), row, "D{parameter:02X}");
+    }
+}
+
+#[test]
+fn a_break_takes_digits_above_9() {
+    for (parameter, row) in [(0x0A, 10), (0x0F, 15), (0x1F, 25), (0x4F, 55), (0x5D, 63)] {
+        assert_eq!(break_row(parameter), row, "D{parameter:02X}");
+    }
+}
+
+#[test]
+fn a_break_past_row_63_goes_to_row_0() {
+    for parameter in [0x5E, 0x5F, 0x64, 0x69, 0x6F, 0x70, 0x99, 0xA0, 0xFF] {
+        assert_eq!(break_row(parameter), 0, "D{parameter:02X}");
+    }
+}
+
 #[test]
 fn after_the_last_position_comes_0() {
-    let mut draft = fast(row(&[(0, 0, 0xD3F)]));
+    let mut draft = fast(row(&[(0, 0, 0xD63)]));
     draft.song_length = 2;
     assert_eq!(
         places(&draft, 5),
