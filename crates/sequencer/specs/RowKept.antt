@@ -12,7 +12,7 @@ use Rattle.laws.specs.Numbers.{cond-le}
 use Rattle.common.specs.Limits.{lastRow, lastByte, leastTempo, greatestTempo}
 use Rattle.reader.specs.declared.Cell.{Cell}
 use Rattle.effects.specs.Notes.{y}
-use Rattle.sequencer.specs.Row.{rowSpeed, rowTempo, rowDelay, rowTime, counted, rowLoop, jumpPosition, breakRow, rowMove, rowFlow, following, flowFrom}
+use Rattle.sequencer.specs.Row.{rowSpeed, rowTempo, rowDelay, rowTime, counted, rowLoop, jumpPosition, tens, breakRow, rowMove, rowFlow, following, flowFrom}
 use Rattle.sequencer.specs.Legal.{leastSpeed, greatestSpeed, lastDelay}
 use Rattle.sequencer.specs.declared.Course.{Course}
 use Rattle.sequencer.specs.declared.Time.{Time}
@@ -48,7 +48,7 @@ fewer n h = omega arith
 
 break-legal : (p : ℕ) → breakRow p ≤ lastRow
 unfolding breakRow
-break-legal p = either (λ (n : ℕ). n ≤ lastRow) (ltb lastRow p) 0 p (λ l. zero≤) (λ l. ltb-false lastRow p l)
+break-legal p = either (λ (n : ℕ). n ≤ lastRow) (ltb lastRow (tens p)) 0 (tens p) (λ l. zero≤) (λ l. ltb-false lastRow (tens p) l)
 
 jump-legal : (positions p : ℕ) → 0 < positions → jumpPosition positions p < positions
 unfolding jumpPosition

@@ -1,4 +1,5 @@
 //! The files that calls are compared on.
+use second::generate::breaks::breaking;
 use second::generate::damage::any_file;
 use second::generate::ends::ends;
 use second::generate::modules::{module, Size};
@@ -8,8 +9,8 @@ use second::generate::Random;
 /// Tempos whose ticks leave something over, the fastest and nearly the slowest.
 pub const UNEVEN: [u32; 3] = [255, 254, 33];
 
-/// A file of a seed: damaged ones, modules of every size, at one tempo throughout, with tempos in every place of a row, and aimed at the
-/// ends of samples.
+/// A file of a seed: damaged ones, modules of every size, at one tempo throughout, with tempos in every place of a row, aimed at the ends
+/// of samples, and with breaks on most rows.
 pub fn file(random: &mut Random, seed: u64) -> Vec<u8> {
     match random.below(100) {
         0..=9 => any_file(seed),
@@ -17,7 +18,8 @@ pub fn file(random: &mut Random, seed: u64) -> Vec<u8> {
         30 => module(seed, Size::Large),
         31..=39 => steady(seed, random.pick(&UNEVEN)),
         40..=54 => changing(seed),
-        55..=74 => ends(seed),
+        55..=69 => ends(seed),
+        70..=74 => breaking(seed),
         _ => module(seed, Size::Small),
     }
 }

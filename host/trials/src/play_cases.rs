@@ -18,7 +18,12 @@ pub const TICKS: u32 = 48;
 const VOICE_CELLS: usize = cell::CHANNEL_CELLS - cell::VOICE_SAMPLE;
 
 pub fn play_cases() -> Vec<Case> {
-    vec![("effects", effects()), ("flow", flow()), ("edges", edges())]
+    vec![
+        ("effects", effects()),
+        ("flow", flow()),
+        ("edges", edges()),
+        ("breaks", breaks()),
+    ]
 }
 
 /// Bytes of a sample that are unlike one another.
@@ -97,14 +102,14 @@ fn flow() -> Vec<u8> {
             (1, 404, 0xE60),
             (0, 0, 0xE61),
             (1, 360, 0xEE2),
-            (0, 0, 0xD3E),
+            (0, 0, 0xD62),
         ],
     );
     column(&mut draft, 1, &[(1, 202, 0), (0, 0, 0xA02), (0, 0, 0xEE1)]);
     draft.put(1, 62, 2, 1, 538, 0xF02);
     draft.put(1, 63, 1, 0, 0, 0xE61);
     draft.put(1, 63, 3, 1, 480, 0xFC0);
-    draft.put(1, 1, 0, 0, 0, 0xD50);
+    draft.put(1, 1, 0, 0, 0, 0xD64);
     draft.put(1, 1, 1, 0, 0, 0xB02);
     fast(&mut draft);
     draft.bytes()
@@ -141,6 +146,35 @@ fn edges() -> Vec<u8> {
         1,
         &[(0, 0, 0xF03), (0, 300, 0x310), (2, 300, 0)],
     );
+    draft.put(0, 0, 2, 0, 0, 0xFFF);
+    draft.bytes()
+}
+
+/// Breaks with the row that each leads to, where the next one stands: digits above 9, the last row, and rows past it.
+const BREAKS: [(u32, usize); 7] = [
+    (0xD25, 25),
+    (0xD63, 63),
+    (0xD64, 0),
+    (0xD1F, 25),
+    (0xD5D, 63),
+    (0xD5E, 0),
+    (0xDFF, 0),
+];
+
+/// A break in each position, one tick a row.
+fn breaks() -> Vec<u8> {
+    let mut draft = Draft::empty();
+    draft.song_length = BREAKS.len() as u8 + 1;
+    draft.add_looped(1, 64, 0, 30, &noise(5, 60));
+    let empty = draft.patterns[0];
+    let mut row = 0;
+    for (position, (effect, next)) in BREAKS.into_iter().enumerate() {
+        draft.put(position, row, 0, 1, 428, effect);
+        draft.patterns.push(empty);
+        draft.table[position + 1] = position as u8 + 1;
+        row = next;
+    }
+    draft.put(0, 0, 1, 0, 0, 0xF01);
     draft.put(0, 0, 2, 0, 0, 0xFFF);
     draft.bytes()
 }
