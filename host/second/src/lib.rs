@@ -1,9 +1,11 @@
 //! A second player of paper 01 and of the requests of paper 02 that have landed, written from the
 //! papers alone, to compare the first one with.
 
+mod floats;
 pub mod generate;
 mod length;
 pub mod module;
+mod output;
 mod play;
 mod records;
 mod state;
@@ -13,10 +15,11 @@ mod work;
 
 use module::Module;
 
+pub use floats::{delivered, mono, side, Frame};
 pub use length::{tick_frames, tick_rest};
-pub use play::{change_page, fresh, play, touch, trace_tick, Trace};
+pub use play::{change_page, fresh, play, play_floats, touch, trace_tick, Trace};
 pub use records::{decode, encode, Command, Stream, Tick};
-pub use stream::{play_stream, tick_list, translate};
+pub use stream::{play_stream, play_stream_floats, tick_list, translate};
 pub use voice::{growth, End, Voice};
 
 /// The numbers of a state where it is handed over: position, row, tick in row, delay, next

@@ -2,8 +2,9 @@
 
 use crate::length::tick_frames;
 use crate::module::Module;
+use crate::output::{one_or_two, Floats, Numbers, Output};
 use crate::state::State;
-use crate::voice::{ends, render, End, Voice, CHANNELS};
+use crate::voice::{ends, frames, End, Voice, CHANNELS};
 use crate::work::{finish, work};
 use crate::{Answer, STATE_CELLS};
 
@@ -23,27 +24,52 @@ pub fn play(file: &[u8], cells: &mut [u32; STATE_CELLS], ticks: u32, out: &mut [
         Ok(read) => read,
         Err(refusal) => return refusal,
     };
-    let mut played = 0;
-    let mut filled = 0;
-    while played < ticks {
-        let mut next = state;
-        work(&module, &mut next);
-        let numbers = 2 * tick_frames(next.tempo, next.remainder);
-        if numbers > out.len() - filled {
-            break;
-        }
-        render(
-            &module,
-            &mut next.voices,
-            &mut out[filled..filled + numbers],
-        );
-        finish(&mut next);
-        state = next;
-        filled += numbers;
-        played += 1;
-    }
+    let played = play_ticks(&module, &mut state, ticks, &mut Numbers::new(out));
     state.write(cells);
     Answer::accepted(played as usize)
+}
+
+/// Plays as `play` does, but floats for one side or two; the last frame's left and right and its
+/// tick in the call go to `pair` and `pair_tick`, which stay where there is no frame.
+pub fn play_floats(
+    file: &[u8],
+    cells: &mut [u32; STATE_CELLS],
+    ticks: u32,
+    sides: u32,
+    out: &mut [f32],
+    pair: &mut [f32; 2],
+    pair_tick: &mut u32,
+) -> Answer {
+    let (module, mut state) = match read(file, cells) {
+        Ok(read) => read,
+        Err(refusal) => return refusal,
+    };
+    if !one_or_two(sides) {
+        return Answer::refused(24, 0);
+    }
+    let mut floats = Floats::new(out, sides);
+    let played = play_ticks(&module, &mut state, ticks, &mut floats);
+    floats.store_last(pair, pair_tick);
+    state.write(cells);
+    Answer::accepted(played as usize)
+}
+
+/// Plays what fits, up to `ticks`, from a state, and counts the ticks.
+fn play_ticks(module: &Module, state: &mut State, ticks: u32, output: &mut impl Output) -> u32 {
+    let mut played = 0;
+    while played < ticks {
+        let mut next = *state;
+        work(module, &mut next);
+        let length = tick_frames(next.tempo, next.remainder);
+        if length > output.frames_left() {
+            break;
+        }
+        output.take(played, length, frames(module, &mut next.voices));
+        finish(&mut next);
+        *state = next;
+        played += 1;
+    }
+    played
 }
 
 /// Takes a touch made on `page` at clock `made` that names a song position.
@@ -112,15 +138,16 @@ impl Trace {
 pub fn trace_tick(file: &[u8], cells: &mut [u32; STATE_CELLS]) -> Result<Trace, Answer> {
     let (module, mut state) = read(file, cells)?;
     work(&module, &mut state);
+    let length = tick_frames(state.tempo, state.remainder);
     let mut trace = Trace {
         position: state.position,
         row: state.row,
         tick: state.tick,
         tempo: state.tempo,
         voices: state.voices,
-        frames: vec![0; 2 * tick_frames(state.tempo, state.remainder)],
+        frames: vec![0; 2 * length],
     };
-    render(&module, &mut state.voices, &mut trace.frames);
+    Numbers::new(&mut trace.frames).take(0, length, frames(&module, &mut state.voices));
     finish(&mut state);
     state.write(cells);
     Ok(trace)

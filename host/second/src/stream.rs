@@ -1,9 +1,10 @@
 //! The tick stream of a song, and the player of streams.
 
 use crate::module::Module;
+use crate::output::{one_or_two, Floats, Numbers, Output};
 use crate::records::{decode, encode, Command, Stream, Tick, SILENT, STEADY};
 use crate::state::State;
-use crate::voice::{render, Voice, CHANNELS};
+use crate::voice::{frames, Voice, CHANNELS};
 use crate::work::{finish, work};
 use crate::Answer;
 
@@ -67,24 +68,52 @@ pub fn play_stream(bytes: &[u8], file: &[u8], out: &mut [i16]) -> Answer {
         Ok(module) => module,
         Err(refusal) => return refusal,
     };
+    match decode(bytes) {
+        Ok(stream) => board(&module, &stream, &mut Numbers::new(out)),
+        Err(refusal) => refusal,
+    }
+}
+
+/// Plays as `play_stream` does, but floats for one side or two; the last frame's left and right
+/// and its tick go to `pair` and `pair_tick`, which stay where there is no frame.
+pub fn play_stream_floats(
+    bytes: &[u8],
+    file: &[u8],
+    sides: u32,
+    out: &mut [f32],
+    pair: &mut [f32; 2],
+    pair_tick: &mut u32,
+) -> Answer {
+    let module = match Module::read(file) {
+        Ok(module) => module,
+        Err(refusal) => return refusal,
+    };
+    if !one_or_two(sides) {
+        return Answer::refused(24, 0);
+    }
     let stream = match decode(bytes) {
         Ok(stream) => stream,
         Err(refusal) => return refusal,
     };
+    let mut floats = Floats::new(out, sides);
+    let answer = board(&module, &stream, &mut floats);
+    floats.store_last(pair, pair_tick);
+    answer
+}
+
+/// Plays what fits of a stream and counts the ticks.
+fn board(module: &Module, stream: &Stream, output: &mut impl Output) -> Answer {
     let mut voices = [Voice::fresh(); CHANNELS];
     let mut played = 0;
-    let mut filled = 0;
-    for (tick, frames) in stream.ticks.iter().zip(stream.lengths()) {
-        let numbers = 2 * frames;
-        if numbers > out.len() - filled {
+    for (tick, length) in stream.ticks.iter().zip(stream.lengths()) {
+        if length > output.frames_left() {
             break;
         }
-        take_commands(&module, &mut voices, tick);
-        render(&module, &mut voices, &mut out[filled..filled + numbers]);
-        filled += numbers;
+        take_commands(module, &mut voices, tick);
+        output.take(played, length, frames(module, &mut voices));
         played += 1;
     }
-    Answer::accepted(played)
+    Answer::accepted(played as usize)
 }
 
 fn take_commands(module: &Module, voices: &mut [Voice; CHANNELS], tick: &Tick) {

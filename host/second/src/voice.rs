@@ -106,17 +106,21 @@ pub fn growth(period: u32) -> u32 {
     (35_468_946 * 65_536 / (480_000 * u64::from(period))) as u32
 }
 
-/// Fills `out`, two numbers a frame, and moves the voices.
-pub fn render(module: &Module, voices: &mut [Voice; CHANNELS], out: &mut [i16]) {
+/// The frames of one tick: each call gives the next one, left and right, and moves the voices.
+pub fn frames<'a>(
+    module: &'a Module,
+    voices: &'a mut [Voice; CHANNELS],
+) -> impl FnMut() -> (i16, i16) + 'a {
     let growths = voices.map(|voice| growth(voice.period));
-    for frame in out.chunks_exact_mut(2) {
+    move || {
         let mut given = [0; CHANNELS];
         for channel in 0..CHANNELS {
             given[channel] = voices[channel].gives(module);
             voices[channel].step(module, growths[channel]);
         }
-        frame[0] = (2 * (given[0] + given[3])) as i16;
-        frame[1] = (2 * (given[1] + given[2])) as i16;
+        let left = 2 * (given[0] + given[3]);
+        let right = 2 * (given[1] + given[2]);
+        (left as i16, right as i16)
     }
 }
 

@@ -6,6 +6,7 @@ mod cells;
 pub mod damage;
 pub mod draft;
 pub mod ends;
+pub mod floats;
 pub mod modules;
 mod random;
 mod scenes;

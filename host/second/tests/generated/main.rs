@@ -3,6 +3,7 @@
 mod breaks;
 mod common;
 mod ends;
+mod floats;
 mod lengths;
 mod playing;
 mod states;

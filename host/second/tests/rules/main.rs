@@ -4,6 +4,7 @@ mod calls;
 mod cases;
 mod common;
 mod effects;
+mod floats;
 mod flow;
 mod lengths;
 mod notes;
