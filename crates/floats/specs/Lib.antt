@@ -1,0 +1,5 @@
+pub mod Exact
+pub mod Frames
+pub mod Quotient
+pub mod Lengths
+pub mod Theorems
