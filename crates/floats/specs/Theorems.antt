@@ -1,7 +1,7 @@
 -- What the definitions say: the bits of an exact float are one number, silence is where both sides are 0, and the numbers of a delivered frame.
 -- Assumes nothing.
 use mathlib.Core.Path.{_≡_, refl, sym, ap, ap₂, _∙_}
-use mathlib.Core.Bool.{Bool, true, false, cond, _&&_, false≢true}
+use mathlib.Core.Bool.{Bool, true, false, not, cond, _&&_, false≢true}
 use mathlib.Core.List.{[], _∷_}
 use Prim.Native.Nat.{ℕ, zero, suc, zero-le, suc-le-suc, _+_, _-_, _*_, _%_, _^_, _≤_, _<_}
 use native.Mathlib.Nat.{mul-le-mul-left, eq-zero-or-pos, pow-suc, mul-assoc, mul-one, eq-of-mul-eq-mul-right, zero-lt-suc}
@@ -14,7 +14,7 @@ use borrow.Author.Tests.{eqb-true}
 use Rattle.floats.specs.declared.Frame.{Frame}
 use Rattle.floats.specs.declared.Frame.the-variants.{Silence, Mono, Stereo}
 use Rattle.floats.specs.Exact.{bitsOf, exactly, word, signOf, powerOf, significandOf, Shows, Exact}
-use Rattle.floats.specs.Frames.{isZero, delivered, positiveZero, numbersIn}
+use Rattle.floats.specs.Frames.{unasked, isZero, delivered, positiveZero, numbersIn}
 use Rattle.laws.specs.Every.{first-of, second-of}
 use lib.Pow.{pow-mono}
 
@@ -104,3 +104,28 @@ two-numbers left right = go (isZero left && isZero right) refl
         ap₂ (λ (x y : Float). x ∷ y ∷ []) (zero-is 15 ∙ sym (ap (λ (z : ℤ). exactly z 15) (is-zero left (first-of (isZero left) (isZero right) p))))
         (zero-is 15 ∙ sym (ap (λ (z : ℤ). exactly z 15) (is-zero right (second-of (isZero left) (isZero right) p))))
     go false p = refl
+
+-- ---- the sides that are asked for
+-- one or two, where they are not refused
+module _ (sides : ℕ) (b : Bool) (e : b ≡ unasked sides) (f : b ≡ false) where
+  asked : (1 ≤ sides) × (sides ≤ 2)
+  unfolding unasked
+  asked = go (eqb sides 1) refl (eqb sides 2) refl (sym e ∙ f)
+    where
+      go : (x : Bool) → eqb sides 1 ≡ x → (y : Bool) → eqb sides 2 ≡ y → not x && not y ≡ false → (1 ≤ sides) × (sides ≤ 2)
+      go true p y q h = let k : sides ≡ 1 = eqb-true sides 1 p in (omega arith, omega arith)
+      go false p true q h = let k : sides ≡ 2 = eqb-true sides 2 q in (omega arith, omega arith)
+      go false p false q h = absurd (false≢true (sym h))
+
+  pub asked-some : 1 ≤ sides
+  asked-some = asked .0
+
+  pub asked-few : sides ≤ 2
+  asked-few = asked .1
+
+pub one-or-two : (sides : ℕ) → 1 ≤ sides → sides ≤ 2 → unasked sides ≡ false
+unfolding unasked
+one-or-two zero l h = absurd (omega arith)
+one-or-two (suc zero) l h = refl
+one-or-two (suc (suc zero)) l h = refl
+one-or-two (suc (suc (suc n))) l h = absurd (omega arith)

@@ -7,7 +7,7 @@ use mathlib.Core.Bool.{Bool, true, false, cond}
 use mathlib.Core.List.{List, _∷_}
 use lib.Dec.{T, ltb}
 use lib.ListN.{length, take, drop, take-append-drop}
-use borrow.Author.Tests.{ltb-true, ltb-false}
+use borrow.Author.Tests.{ltb-true, ltb-false, le-ltb}
 use borrow.Rule.Slice.PartMut.{putMid}
 use Rattle.laws.specs.Lent.{tail-long, tail-back}
 use Rattle.ticks.specs.Play.{Mechanism, over}
@@ -15,6 +15,11 @@ use Rattle.ticks.specs.Playing.{Playing, Played, playing-more, playing-full}
 use Rattle.machine.specs.Turn.{Turned, turn, turnOf}
 
 -- ---- what a turn says
+-- with room for the tick it is played
+pub turn-room : {A W S : Type 0} (m : Mechanism A W S) (w : W) (t : S) (out : List A) → length (m .frames w t) ≤ length out → turnOf m w t out ≡ turn false (length (m .frames w t)) (m .after w t) (over (m .frames w t) out)
+unfolding turnOf
+turn-room m w t out h = rw (le-ltb (length out) (length (m .frames w t)) h)
+
 record Full {A W S : Type 0} (m : Mechanism A W S) (w : W) (t : S) (out : List A) (r : Turned A W) : Type 0 where
   pub small : length out < length (m .frames w t)
   pub cells : r .out ≡ out
