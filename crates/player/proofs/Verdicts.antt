@@ -1,11 +1,11 @@
 -- What the calls go by: 1 to 9, then 14, then a call's own lines. Laws over plain variables.
 -- Assumes nothing.
 use Prim.Native.Nat.{ℕ}
-use mathlib.Core.Path.{_≡_, refl, sym, ap, subst, _∙_}
-use mathlib.Core.Bool.{Bool, true, false, not, cond, _&&_}
+use mathlib.Core.Path.{_≡_, sym, ap, _∙_}
+use mathlib.Core.Bool.{Bool, true, false, not, _&&_}
 use mathlib.Core.List.{List, []}
 use native.Mathlib.Omega.{arith}
-use lib.Dec.{eqb, ltb}
+use lib.Dec.{ltb}
 use lib.IntN.{ℤ}
 use Rattle.laws.specs.Ranges.{all, allFrom}
 use Rattle.reader.specs.Layouts.{LegalLayout}
@@ -25,10 +25,8 @@ use Rattle.player.specs.declared.State.{State}
 use Rattle.player.specs.declared.Reply.{Reply}
 use Rattle.player.specs.State.{legalState, stateLines, reply}
 use Rattle.player.specs.Play.{playedFrom, playOf}
-use Rattle.player.specs.Legal.{Playable, Judged}
-
-never-zero : {A : Type 0} (n : ℕ) → (n ≡ 0 → ⊥) → n ≡ 0 → A
-never-zero n h e = absurd (h e)
+use Rattle.player.specs.Legal.{Judged}
+use Rattle.player.specs.Judging.{never-zero, refused-state, passed-state}
 
 -- ---- the test of a state
 pub state-tested : (layout : Layout) (bytes : List ℕ) (s : State) (positions : ℕ) (extents : List Extent) (a b c : Bool) → positions ≡ songLength (lent layout bytes) → extents ≡ extentsOf (lent layout bytes) → a ≡ legalSong positions layout (s .song) → b ≡ legalVoices layout extents (s .voices) → c ≡ ltb (s .remainder) (s .song .time .tempo) → a && b && c ≡ legalState (lent layout bytes) s
@@ -60,39 +58,16 @@ module _ (layout : Layout) (bytes : List ℕ) (s : State) (v : Answer) (ve : v �
 
 -- ---- a call's answer by the verdict, for the layout of every module
 module _ (layout : Layout) (bytes : List ℕ) (s : State) (v : Answer) (j : Judged (lent layout bytes) s v) (le : layout ≡ fourChannels) where
-  here : Judged (moduleOf bytes) s v
-  here = subst (λ (l : Layout). Judged (lent l bytes) s v) le j
-
-  pub judged-number : v .number ≡ 0 → verdict (lent layout bytes) .number ≡ 0
-  judged-number z = j .playable z .judged
-
-  pub play-playable : v .number ≡ 0 → Playable (lent layout bytes) (record { song = s .song; voices = s .voices; remainder = s .remainder })
-  play-playable z = j .playable z
-
-  module _ {A : Type 0} (refuse : ℕ → ℕ → A) (work : A) (more : List Line) where
-    pub refused-state : (v .number ≡ 0 → ⊥) → refuse (v .number) (v .place) ≡ refusing refuse work (stateLines (moduleOf bytes) s more)
-    unfolding refusing
-    refused-state h = by (eqb (verdict (moduleOf bytes) .number) 0) refl (legalState (moduleOf bytes) s) refl (here .is)
-      where
-        by : (t : Bool) → eqb (verdict (moduleOf bytes) .number) 0 ≡ t → (l : Bool) → legalState (moduleOf bytes) s ≡ l → v ≡ cond (not t) (refused (verdict (moduleOf bytes) .number) (verdict (moduleOf bytes) .place)) (cond (not l) (refused 14 0) (accepted 0))
-            → refuse (v .number) (v .place) ≡ cond (not t) (refuse (verdict (moduleOf bytes) .number) (verdict (moduleOf bytes) .place)) (cond (not l) (refuse 14 0) (refusing refuse work more))
-        by false e l q i = rw i
-        by true e false q i = rw i
-        by true e true q i = never-zero (v .number) h (ap (λ (x : Answer). x .number) i)
-
-    pub passed-state : v .number ≡ 0 → (x : A) → x ≡ refusing refuse work more → x ≡ refusing refuse work (stateLines (moduleOf bytes) s more)
-    passed-state z x e = module-passed refuse work (moduleOf bytes) _ x (here .playable z .judged) (line-passed refuse work 14 0 _ more x (ap not (here .playable z .legal)) e)
-
   -- a refusal leaves the state
   pub refused-reply : (work : Reply) (more : List Line) (r : Reply) → (v .number ≡ 0 → ⊥) → r ≡ reply (refused (v .number) (v .place)) s → r ≡ refusing (λ number place. reply (refused number place) s) work (stateLines (moduleOf bytes) s more)
-  refused-reply work more r h e = e ∙ refused-state (λ number place. reply (refused number place) s) work more h
+  refused-reply work more r h e = e ∙ refused-state layout bytes s v j le (λ number place. reply (refused number place) s) work more h
 
   -- ---- playing
   module _ (n : ℕ) (out : List ℤ) (r : Reply) where
     pub play-refused : (v .number ≡ 0 → ⊥) → r ≡ reply (refused (v .number) (v .place)) s → outcome r out ≡ playOf bytes s n out
     unfolding playOf
-    play-refused h e = ap (λ (x : Reply). outcome x out) e ∙ refused-state (λ number place. outcome (reply (refused number place) s) out) (playedFrom (moduleOf bytes) s n out) [] h
+    play-refused h e = ap (λ (x : Reply). outcome x out) e ∙ refused-state layout bytes s v j le (λ number place. outcome (reply (refused number place) s) out) (playedFrom (moduleOf bytes) s n out) [] h
 
     pub play-accepted : (out′ : List ℤ) → v .number ≡ 0 → outcome r out′ ≡ playedFrom (lent layout bytes) (record { song = s .song; voices = s .voices; remainder = s .remainder }) n out → outcome r out′ ≡ playOf bytes s n out
     unfolding playOf refusing
-    play-accepted out′ z e = passed-state (λ number place. outcome (reply (refused number place) s) out) (playedFrom (moduleOf bytes) s n out) [] z (outcome r out′) (rw le at e)
+    play-accepted out′ z e = passed-state layout bytes s v j le (λ number place. outcome (reply (refused number place) s) out) (playedFrom (moduleOf bytes) s n out) [] z (outcome r out′) (rw le at e)

@@ -9,9 +9,9 @@ use common::limits::WIDTH;
 use sequencer::Song;
 use voice::Voice;
 
-mod legality;
+pub mod legality;
 mod moves;
-mod playing;
+pub mod playing;
 
 // A state: the song, its voices and the remainder of the tick before. Any numbers may stand in it.
 pub struct State {
@@ -29,7 +29,7 @@ pub struct Reply {
 // The oldest age at which a touch still counts, in ticks.
 const OLDEST: u32 = 25;
 
-fn refuse(number: u32, place: usize, state: State) -> Reply
+pub fn refuse(number: u32, place: usize, state: State) -> Reply
     ensures { λ r. ⌜ r ≡ reply (refused number place) state ⌝ }
 {
     Reply {

@@ -30,7 +30,7 @@ fn soundings(voices: [Voice; WIDTH]) -> [u32; WIDTH]
 }
 
 // The song's next tick, beside the machine's sounding samples.
-fn next_tick(layout: Layout, file: &[u8], song: Song, machine: Machine) -> Worked
+pub fn next_tick(layout: Layout, file: &[u8], song: Song, machine: Machine) -> Worked
     requires layout { ⌜ LegalLayout layout ⌝ }
     requires accepted { ⌜ verdict (lent layout (now file)) .number ≡ 0 ⌝ }
     requires legal { ⌜ LegalSong (songLength (lent layout (now file))) layout song ⌝ }
@@ -40,7 +40,7 @@ fn next_tick(layout: Layout, file: &[u8], song: Song, machine: Machine) -> Worke
     sequencer::tick(layout, file, song, soundings(voices))
 }
 
-fn after_ticks(song: Song, machine: Machine, count: u32) -> Reply
+pub fn after_ticks(song: Song, machine: Machine, count: u32) -> Reply
     ensures { λ r. ⌜ r ≡ reply (accepted count) (record { song = song; voices = machine .voices; remainder = machine .remainder }) ⌝ }
 {
     let voices = machine.voices;

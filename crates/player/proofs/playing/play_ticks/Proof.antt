@@ -1,12 +1,16 @@
 -- The loop: what is played, followed by what is left to play, is the whole (`Turning`); the sequencer gives the next tick, the machine plays it.
-use Rattle.player.proofs.Turns.{Turning, turning-begin, turning-within, turning-narrow, turning-next, turning-step, turning-all, turning-tempo, turning-ready, turning-full, turning-long, turning-more}
+use Rattle.machine.specs.Carries.{itself}
+use Rattle.player.specs.Turning.{Turning, turning-within, turning-narrow, turning-low, turning-next, turning-step, turning-some, turning-ready, turning-long, turning-more}
+use Rattle.player.proofs.Turns.{tabled, turning-begin, ended-all, ended-full}
 use Prim.Native.Nat.{_-_}
+use lib.IntN.{ℤ}
 use borrow.Author.Needs.{needs}
 use Rattle.player.proofs.playing.play_ticks.Statement.{statement}
 use Rattle.player.proofs.playing.play_ticks.Tie as tie
 
 abbrev Inv-loop : tie.InvT-loop
-Inv-loop layout file left n out₀ extents song₀ machine₀ at₀ i₀ out song machine at i = Turning layout file extents (record { song = song₀; voices = machine₀ .voices; remainder = machine₀ .remainder }) n out₀ song machine out at i
+Inv-loop layout file left n out₀ extents song₀ machine₀ at₀ i₀ out song machine at i =
+    Turning itself (tabled layout file extents) layout file extents (record { song = song₀; voices = machine₀ .voices; remainder = machine₀ .remainder }) machine₀ n out₀ song machine out at i
 
 abbrev μ-loop : tie.MeasureT-loop
 μ-loop layout file left n out₀ extents song₀ machine₀ at₀ i₀ out song machine at i = n - i
@@ -24,14 +28,14 @@ play-ticks-spec =
     (λ c. search needs)
     (λ c. search needs)
     (λ c. search needs)
-    (λ c κs. (search needs, (search (turning-ready, needs), (search (turning-tempo, needs), search needs))))
+    (λ c κs. (search needs, (search (turning-ready {A = ℤ} itself, needs), (search (turning-some, needs), search (turning-low, needs)))))
     (λ c κs. search needs)
     (λ c. search (turning-long, needs))
-    (λ c. search (turning-full, needs))
+    (λ c. search (ended-full, needs))
     (λ c. search (turning-next, needs))
     (λ c. search (turning-step, needs))
     (λ c. search needs)
     (λ c. search (turning-more, needs))
     (λ c κs. search needs)
     (λ c. search needs)
-    (λ c. search (turning-all, needs)))
+    (λ c. search (ended-all, needs)))
