@@ -8,7 +8,7 @@ use native.Mathlib.Omega.{arith}
 use lib.ListN.{length, getD, take, drop}
 use borrow.Rule.Slice.PartMut.{putMid}
 use Rattle.common.specs.Bytes.{fourAt}
-use Rattle.common.specs.Limits.{width, greatestTempo}
+use Rattle.common.specs.Limits.{width, leastTempo, greatestTempo}
 use Rattle.ticks.specs.declared.Command.{Command}
 use Rattle.ticks.specs.declared.Tick.{Tick}
 use Rattle.ticks.specs.Commands.{nothing}
@@ -75,8 +75,8 @@ module _ {A W : Type 0} (k : Mechanism A W Tick) (voicesOf : W → List Voice) (
       next : Next (sampleCount m) (channelCount m) s (fourAt s countPlace - (i + 1)) registers (g .rest) r
       next = left-next (sampleCount m) (channelCount m) s (fourAt s countPlace) i from registers (g .rest) (g .left) r h q
 
-      pub next-tempo : 0 < r .tick .tempo
-      next-tempo = omega (arith, next .legal .tempo .low)
+      pub next-tempo : leastTempo ≤ r .tick .tempo
+      next-tempo = next .legal .tempo .low
 
       pub next-most : r .tick .tempo ≤ greatestTempo
       next-most = next .legal .tempo .high

@@ -1,12 +1,17 @@
 -- The loop: the ticks that are played, followed by those of the records that are left, are the whole stream's (`Turning`).
-use Rattle.board.proofs.Turns.{good-long, Turning, turning-begin, turning-layout, turning-few, turning-low, turning-within, turning-narrow, turning-next, turning-all, turning-tempo, turning-ready, turning-full, turning-long, turning-more}
+use Rattle.machine.specs.Machine.{freshMachine}
+use Rattle.machine.specs.Carries.{itself}
+use Rattle.board.specs.Turning.{good-long, Turning, turning-layout, turning-few, turning-low, turning-within, turning-narrow, turning-next, turning-some, turning-ready, turning-long, turning-more}
+use Rattle.board.proofs.Turns.{ruled, turning-begin, ended-all, ended-full}
 use Prim.Native.Nat.{_-_}
+use lib.IntN.{ℤ}
 use borrow.Author.Needs.{needs}
 use Rattle.board.proofs.play_records.Statement.{statement}
 use Rattle.board.proofs.play_records.Tie as tie
 
 abbrev Inv-loop : tie.InvT-loop
-Inv-loop layout file stream out₀ extents last count keeping machine₀ registers₀ from₀ at₀ i₀ out machine registers from at i = Turning layout file stream extents last count keeping out₀ machine registers from out at i
+Inv-loop layout file stream out₀ extents last count keeping machine₀ registers₀ from₀ at₀ i₀ out machine registers from at i =
+    Turning itself (ruled keeping layout file extents) layout file stream extents last count keeping freshMachine out₀ machine registers from out at i
 
 abbrev μ-loop : tie.MeasureT-loop
 μ-loop layout file stream out₀ extents last count keeping machine₀ registers₀ from₀ at₀ i₀ out machine registers from at i = count - i
@@ -29,14 +34,14 @@ play-records-spec =
     (λ c. search needs)
     (λ c. search needs)
     (λ c. search needs)
-    (λ c κs. (search (turning-layout, needs), (search (turning-ready, needs), (search (turning-tempo, needs), search (turning-low, needs)))))
+    (λ c κs. (search (turning-layout, needs), (search (turning-ready {A = ℤ} itself, needs), (search (turning-some, needs), search (turning-low, needs)))))
     (λ c κs. search needs)
     (λ c. search (turning-long, needs))
-    (λ c. search (turning-full, needs))
+    (λ c. search (ended-full, needs))
     (λ c. search (turning-next, needs))
     (λ c. search needs)
     (λ c. search needs)
     (λ c. search (turning-more, needs))
     (λ c κs. search needs)
     (λ c. search needs)
-    (λ c. search (turning-all, needs)))
+    (λ c. search (ended-all, needs)))
