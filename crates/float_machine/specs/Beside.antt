@@ -1,21 +1,21 @@
 -- The machine that plays floats, beside the one that plays 16-bit frames: the same machine is in it (`same-machine`), its numbers are the delivered ones of the
 -- same frames (`same-numbers`), and it counts the ticks of the call (`same-count`). A tick takes so many numbers for each of its frames as the page has sides.
 -- Assumes nothing.
-use Prim.Native.Nat.{ℕ, _+_, _*_, _≤_}
+use Prim.Native.Nat.{ℕ, suc, _+_, _-_, _*_, _≤_}
 use mathlib.Core.Path.{_≡_, refl, sym, ap, _∙_}
-use mathlib.Core.Bool.{Bool}
+use mathlib.Core.Bool.{Bool, cond}
 use mathlib.Core.List.{List, [], _∷_, _++_}
 use native.Mathlib.Nat.{add-zero}
 use native.Mathlib.Omega.{arith}
+use lib.Dec.{leb}
 use lib.IntN.{ℤ}
 use lib.ListN.{length}
 use lib.Ieee.{Float}
 use Rattle.ticks.specs.declared.Tick.{Tick}
-use Rattle.ticks.specs.Play.{Mechanism, afterAll, rendered}
+use Rattle.ticks.specs.Play.{Mechanism, afterAll, rendered, fit}
 use Rattle.reader.specs.Samples.{Sample}
-use Rattle.voice.specs.Frames.{frameNumbers}
 use Rattle.machine.specs.declared.Machine.{Machine}
-use Rattle.machine.specs.Machine.{tickLength, after, mechanism}
+use Rattle.machine.specs.Machine.{tickLength, mechanism}
 use Rattle.machine.specs.Drift.{sized}
 use Rattle.machine.specs.Carries.{Holds}
 use Rattle.floats.specs.Frames.{floatsOf}
@@ -54,3 +54,11 @@ module _ (sides : ℕ) (k : Mechanism ℤ Machine Tick) where
   unfolding afterAll floatAfter
   same-count w [] = sym (add-zero (w .next))
   same-count w (t ∷ ts) = same-count (floatAfter k w t) ts ∙ omega arith
+
+  -- how many ticks fit does not depend on the record
+  pub same-fit : (room : ℕ) (w v : FloatMachine) (ts : List Tick) → w .machine ≡ v .machine → fit (floatsBy sides k) room w ts ≡ fit (floatsBy sides k) room v ts
+  unfolding fit floatFrames floatAfter
+  same-fit room w v [] e = refl
+  same-fit room w v (t ∷ ts) e =
+      let n = length (floatsOf sides (k .frames (v .machine) t)) in
+      rw e (ap (λ (i : ℕ). cond (leb n room) (suc i) 0) (same-fit (room - n) _ _ ts refl))
