@@ -9,9 +9,11 @@ ghost use Rattle.cells.specs.Cells.{stateCells, stateOf};
 ghost use Rattle.translator.specs.Translate.{translateOf};
 ghost use Rattle.board.specs.Board.{playStreamOf};
 ghost use Rattle.capi.specs.Answers.{answerCells, cellsAfter};
+ghost use Rattle.capi.specs.Floats.{pairIn, pairAfter, pairTickAfter, floatsOn, streamFloatsOn};
 ghost use Rattle.capi.specs.Version.{libraryVersion};
 use cells::CELLS;
 use common::Answer;
+use floats::Pair;
 use player::Reply;
 
 // Major times 1,000,000, plus minor times 1,000, plus patch.
@@ -19,6 +21,9 @@ const VERSION: u32 = 2000;
 
 // An answer's cells.
 const ANSWER_CELLS: usize = 3;
+
+// A record's two floats.
+const PAIR_CELLS: usize = 2;
 
 fn put_answer(a: Answer, answer: &mut [u64; ANSWER_CELLS])
     ensures { λ _. ⌜ now (answer .exit) ≡ answerCells a ⌝ }
@@ -37,6 +42,29 @@ fn put_reply(reply: Reply, state: &mut [u32; CELLS], answer: &mut [u64; ANSWER_C
     }
     let after = reply.state;
     *state = cells::cells_of(after);
+}
+
+// The record of the last left and right in cells.
+fn pair_of(cells: [f32; PAIR_CELLS], tick: u32) -> Pair
+    ensures { λ r. ⌜ r ≡ pairIn cells tick ⌝ }
+{
+    Pair {
+        left: cells[0],
+        right: cells[1],
+        tick: tick,
+    }
+}
+
+// A refusal leaves the record's cells.
+fn put_pair(a: Answer, last: Pair, pair: &mut [f32; PAIR_CELLS], tick: &mut u32)
+    ensures paired { λ _. ⌜ now (pair .exit) ≡ pairAfter a last (now (pair .entry)) ⌝ }
+    ensures ticked { λ _. ⌜ now (tick .exit) ≡ pairTickAfter a last (now (tick .entry)) ⌝ }
+{
+    if a.number != 0 {
+        return;
+    }
+    *pair = [last.left, last.right];
+    *tick = last.tick;
 }
 
 // The version of the library that is linked.
@@ -137,4 +165,53 @@ pub extern "C" fn lampthistle_play_stream(
     ensures sounded { λ _. ⌜ now (out .exit) ≡ playStreamOf (now (file .entry)) (now (stream .entry)) (now (out .entry)) .out ⌝ }
 {
     put_answer(board::play_stream(stream, file, out), answer);
+}
+
+// Plays the largest number of whole ticks, up to `ticks`, whose numbers fit into out, as floats for one side or two.
+#[no_mangle]
+pub extern "C" fn lampthistle_play_floats(
+    file: &[u8],
+    state: &mut [u32; CELLS],
+    ticks: u32,
+    sides: u32,
+    out: &mut [f32],
+    pair: &mut [f32; PAIR_CELLS],
+    pair_tick: &mut u32,
+    answer: &mut [u64; ANSWER_CELLS],
+)
+    ensures answered { λ _. ⌜ now (answer .exit) ≡ answerCells (floatsOn (now (file .entry)) (now (state .entry)) ticks sides (now (pair .entry)) (now («pair_tick» .entry)) (now (out .entry)) .reply .reply .answer) ⌝ }
+    ensures stated { λ _. ⌜ now (state .exit) ≡ cellsAfter (floatsOn (now (file .entry)) (now (state .entry)) ticks sides (now (pair .entry)) (now («pair_tick» .entry)) (now (out .entry)) .reply .reply) (now (state .entry)) ⌝ }
+    ensures paired { λ _. ⌜ now (pair .exit) ≡ pairAfter (floatsOn (now (file .entry)) (now (state .entry)) ticks sides (now (pair .entry)) (now («pair_tick» .entry)) (now (out .entry)) .reply .reply .answer) (floatsOn (now (file .entry)) (now (state .entry)) ticks sides (now (pair .entry)) (now («pair_tick» .entry)) (now (out .entry)) .reply .pair) (now (pair .entry)) ⌝ }
+    ensures ticked { λ _. ⌜ now («pair_tick» .exit) ≡ pairTickAfter (floatsOn (now (file .entry)) (now (state .entry)) ticks sides (now (pair .entry)) (now («pair_tick» .entry)) (now (out .entry)) .reply .reply .answer) (floatsOn (now (file .entry)) (now (state .entry)) ticks sides (now (pair .entry)) (now («pair_tick» .entry)) (now (out .entry)) .reply .pair) (now («pair_tick» .entry)) ⌝ }
+    ensures sounded { λ _. ⌜ now (out .exit) ≡ floatsOn (now (file .entry)) (now (state .entry)) ticks sides (now (pair .entry)) (now («pair_tick» .entry)) (now (out .entry)) .out ⌝ }
+{
+    let old = pair_of(*pair, *pair_tick);
+    let played = float_player::play_floats(file, cells::state_of(state), ticks, sides, old, out);
+    let reply = played.reply;
+    let last = played.pair;
+    put_pair(reply.answer, last, pair, pair_tick);
+    put_reply(reply, state, answer);
+}
+
+// Plays a stream with a module's samples, as floats for one side or two.
+#[no_mangle]
+pub extern "C" fn lampthistle_play_stream_floats(
+    stream: &[u8],
+    file: &[u8],
+    sides: u32,
+    out: &mut [f32],
+    pair: &mut [f32; PAIR_CELLS],
+    pair_tick: &mut u32,
+    answer: &mut [u64; ANSWER_CELLS],
+)
+    ensures answered { λ _. ⌜ now (answer .exit) ≡ answerCells (streamFloatsOn (now (file .entry)) (now (stream .entry)) sides (now (pair .entry)) (now («pair_tick» .entry)) (now (out .entry)) .reply .answer) ⌝ }
+    ensures paired { λ _. ⌜ now (pair .exit) ≡ pairAfter (streamFloatsOn (now (file .entry)) (now (stream .entry)) sides (now (pair .entry)) (now («pair_tick» .entry)) (now (out .entry)) .reply .answer) (streamFloatsOn (now (file .entry)) (now (stream .entry)) sides (now (pair .entry)) (now («pair_tick» .entry)) (now (out .entry)) .reply .pair) (now (pair .entry)) ⌝ }
+    ensures ticked { λ _. ⌜ now («pair_tick» .exit) ≡ pairTickAfter (streamFloatsOn (now (file .entry)) (now (stream .entry)) sides (now (pair .entry)) (now («pair_tick» .entry)) (now (out .entry)) .reply .answer) (streamFloatsOn (now (file .entry)) (now (stream .entry)) sides (now (pair .entry)) (now («pair_tick» .entry)) (now (out .entry)) .reply .pair) (now («pair_tick» .entry)) ⌝ }
+    ensures sounded { λ _. ⌜ now (out .exit) ≡ streamFloatsOn (now (file .entry)) (now (stream .entry)) sides (now (pair .entry)) (now («pair_tick» .entry)) (now (out .entry)) .out ⌝ }
+{
+    let old = pair_of(*pair, *pair_tick);
+    let played = float_board::play_stream_floats(stream, file, sides, old, out);
+    let last = played.pair;
+    put_pair(played.answer, last, pair, pair_tick);
+    put_answer(played.answer, answer);
 }
