@@ -54,10 +54,6 @@ fn play_records(
     requires asked { ⌜ (1 ≤ sides) × (sides ≤ 2) ⌝ }
     ensures { λ r. ⌜ outcome r (now (out .exit)) ≡ floatBoardOf (layout .samples) (layout .channels) (samplesOf (lent layout (now (file .entry)))) (now (stream .entry)) sides old (now (out .entry)) ⌝ }
 {
-    let extents = reader::samples::extents(layout, file);
-    let last = layout.samples as u32;
-    let count = decoder::count_of(stream);
-    let keeping = decoder::keeps(stream);
     let mut mixed = [0i16; MIXED];
     let shared = machine::fresh();
     let mut machine = FloatMachine {
@@ -65,13 +61,18 @@ fn play_records(
         last: old,
         next: 0,
     };
-    let mut registers = records::at_first();
+    let extents = reader::samples::extents(layout, file);
+    let keeping = decoder::keeps(stream);
+    let count = decoder::count_of(stream);
+    let last = layout.samples as u32;
     let mut from = records::RECORDS_PLACE;
+    let mut registers = records::at_first();
     let mut at = 0;
     let mut i = 0;
     while i < count {
         let next = decoder::read_record(last, layout.channels, stream, from, registers);
         let tick = next.tick;
+        let commands = tick.commands;
         let turn = float_machine::play_tick(
             layout,
             file,
@@ -87,7 +88,6 @@ fn play_records(
             return after_ticks(machine, i);
         }
         machine = turn.machine;
-        let commands = tick.commands;
         registers = commands;
         from = next.next;
         at += turn.size;

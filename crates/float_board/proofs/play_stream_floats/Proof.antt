@@ -14,18 +14,5 @@ play-records-requires c κs =
 pub play-stream-floats-spec : {M : Type 1} → statement M
 play-stream-floats-spec =
     tie.close
-    (tie.spec
-    (λ c κs. search needs)
-    (λ c κs. search needs)
-    (λ c κs. search needs)
-    (λ c. search (module-refused, needs))
-    (λ c κs. search needs)
-    (λ c κs. search needs)
-    (λ c. search (sides-refused, needs))
-    (λ c. search needs)
-    (λ c κs. search needs)
-    (λ c κs. search needs)
-    (λ c. search (stream-refused, needs))
-    play-records-requires
-    (λ c. search needs)
-    (λ c. search (stream-played, needs)))
+    (tie.spec (λ c κs. search needs) (λ c κs. search needs) (λ c κs. search needs) (λ c. search (module-refused, needs)) (λ c κs. search needs) (λ c κs. search needs) (λ c. search (sides-refused, needs))
+    (λ c. search needs) (λ c κs. search needs) (λ c κs. search needs) (λ c. search (stream-refused, needs)) play-records-requires (λ c. search needs) (λ c. search (stream-played, needs)))
