@@ -57,11 +57,11 @@ extern "C" {
 #endif
 
 #define LAMPTHISTLE_VERSION_MAJOR 0
-#define LAMPTHISTLE_VERSION_MINOR 2
+#define LAMPTHISTLE_VERSION_MINOR 3
 #define LAMPTHISTLE_VERSION_PATCH 0
 /* This header's version as one number, and as text. */
 #define LAMPTHISTLE_VERSION (1000000 * LAMPTHISTLE_VERSION_MAJOR + 1000 * LAMPTHISTLE_VERSION_MINOR + LAMPTHISTLE_VERSION_PATCH)
-#define LAMPTHISTLE_VERSION_TEXT "0.2.0"
+#define LAMPTHISTLE_VERSION_TEXT "0.3.0"
 /* Whether cells, refusals and calls of a version are those of this header. */
 #define LAMPTHISTLE_SAME_CELLS(version) ((version) / 1000 == LAMPTHISTLE_VERSION / 1000)
 

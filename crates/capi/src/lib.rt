@@ -17,7 +17,7 @@ use floats::Pair;
 use player::Reply;
 
 // Major times 1,000,000, plus minor times 1,000, plus patch.
-const VERSION: u32 = 2000;
+const VERSION: u32 = 3000;
 
 // An answer's cells.
 const ANSWER_CELLS: usize = 3;
