@@ -7,6 +7,7 @@ mod length;
 pub mod module;
 mod output;
 mod play;
+mod quiet;
 mod records;
 mod state;
 mod stream;
@@ -18,6 +19,7 @@ use module::Module;
 pub use floats::{delivered, mono, side, Frame};
 pub use length::{tick_frames, tick_rest};
 pub use play::{change_page, fresh, play, play_floats, touch, trace_tick, Trace};
+pub use quiet::{why_quiet, Cause};
 pub use records::{decode, encode, Command, Stream, Tick};
 pub use stream::{play_stream, play_stream_floats, tick_list, translate};
 pub use voice::{growth, End, Voice};
@@ -29,7 +31,7 @@ pub use voice::{growth, End, Voice};
 pub const STATE_CELLS: usize = 57;
 
 /// What a call answers: the refusal's number and place, or number and place 0 and the count
-/// of ticks played or bytes written.
+/// of ticks played or bytes written, or the cause of quiet.
 #[derive(Clone, Copy, Debug, PartialEq, Eq)]
 pub struct Answer {
     pub number: u64,

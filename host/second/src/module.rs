@@ -31,6 +31,17 @@ pub struct Sample<'a> {
     pub end: u32,
 }
 
+impl Sample<'_> {
+    /// What the byte at an index below the end reads as: bytes 0 and 1 of each sample as 0.
+    pub fn read(&self, index: u32) -> i8 {
+        if index < 2 {
+            0
+        } else {
+            self.bytes[index as usize] as i8
+        }
+    }
+}
+
 #[derive(Clone, Copy, Debug, PartialEq, Eq, Default)]
 pub struct Cell {
     pub sample: u32,

@@ -153,7 +153,8 @@ pub fn trace_tick(file: &[u8], cells: &mut [u32; STATE_CELLS]) -> Result<Trace, 
     Ok(trace)
 }
 
-fn read<'a>(file: &'a [u8], cells: &[u32; STATE_CELLS]) -> Result<(Module<'a>, State), Answer> {
+/// The module and the state that a call was given, or their refusal.
+pub fn read<'a>(file: &'a [u8], cells: &[u32; STATE_CELLS]) -> Result<(Module<'a>, State), Answer> {
     let module = Module::read(file)?;
     let state = State::read(cells, &module)?;
     Ok((module, state))

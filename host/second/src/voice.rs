@@ -66,12 +66,7 @@ impl Voice {
         let Some(sample) = module.sample(self.sample) else {
             return 0;
         };
-        // Bytes 0 and 1 of each sample read as 0.
-        if self.index < 2 {
-            return 0;
-        }
-        let byte = sample.bytes[self.index as usize] as i8;
-        i32::from(byte) * self.volume as i32
+        i32::from(sample.read(self.index)) * self.volume as i32
     }
 
     /// Moves by one frame; `growth` is the growth of the fraction at the voice's period.

@@ -8,6 +8,7 @@ pub mod draft;
 pub mod ends;
 pub mod floats;
 pub mod modules;
+pub mod quiet;
 mod random;
 mod scenes;
 pub mod states;

@@ -6,5 +6,6 @@ mod ends;
 mod floats;
 mod lengths;
 mod playing;
+mod quiet;
 mod states;
 mod streams;

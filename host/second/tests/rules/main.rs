@@ -8,5 +8,6 @@ mod floats;
 mod flow;
 mod lengths;
 mod notes;
+mod quiet;
 mod streams;
 mod voices;
