@@ -5,6 +5,7 @@ ghost use Rattle.reader.specs.Judge.{judgeOf};
 ghost use Rattle.player.specs.State.{freshState};
 ghost use Rattle.player.specs.Play.{playOf};
 ghost use Rattle.player.specs.Touch.{changePageOf, touchOf};
+ghost use Rattle.player.specs.Quiet.{whyQuietOf, whyAnswer};
 ghost use Rattle.cells.specs.Cells.{stateCells, stateOf};
 ghost use Rattle.translator.specs.Translate.{translateOf};
 ghost use Rattle.board.specs.Board.{playStreamOf};
@@ -15,6 +16,7 @@ use cells::CELLS;
 use common::Answer;
 use floats::Pair;
 use player::Reply;
+use player::Why;
 
 // Major times 1,000,000, plus minor times 1,000, plus patch.
 const VERSION: u32 = 3000;
@@ -137,6 +139,30 @@ pub extern "C" fn lampthistle_change_page(
 {
     let reply = player::change_page(file, cells::state_of(state));
     put_reply(reply, state, answer);
+}
+
+// The count is the cause's number.
+fn why_answer(why: Why) -> Answer
+    ensures { λ r. ⌜ r ≡ whyAnswer why ⌝ }
+{
+    match why {
+        Why::Refused(a) => a,
+        Why::Because(c) => common::accept(voice::quiet::cause_number(c)),
+    }
+}
+
+// Why a channel is quiet.
+#[no_mangle]
+pub extern "C" fn lampthistle_why_quiet(
+    file: &[u8],
+    state: &[u32; CELLS],
+    channel: u32,
+    answer: &mut [u64; ANSWER_CELLS],
+)
+    ensures { λ _. ⌜ now (answer .exit) ≡ answerCells (whyAnswer (whyQuietOf (now (file .entry)) (stateOf (now (state .entry))) channel)) ⌝ }
+{
+    let why = player::why_quiet(file, cells::state_of(state), channel);
+    put_answer(why_answer(why), answer);
 }
 
 // Translates at most 65,535 ticks of a module, from fresh, to a stream in the room.

@@ -4,14 +4,17 @@ ghost use Rattle.common.specs.Answers.{refused, outcome};
 ghost use Rattle.player.specs.State.{freshState, reply};
 ghost use Rattle.player.specs.Play.{playOf};
 ghost use Rattle.player.specs.Touch.{changePageOf, ageOf, touchOf};
+ghost use Rattle.player.specs.Quiet.{whyQuietOf};
 use common::Answer;
 use common::limits::WIDTH;
 use sequencer::Song;
 use voice::Voice;
+use voice::quiet::Cause;
 
 pub mod legality;
 mod moves;
 pub mod playing;
+mod quiet;
 
 // A state: the song, its voices and the remainder of the tick before. Any numbers may stand in it.
 pub struct State {
@@ -24,6 +27,12 @@ pub struct State {
 pub struct Reply {
     pub answer: Answer,
     pub state: State,
+}
+
+// What asking for the cause of quiet returns.
+pub enum Why {
+    Refused(Answer),
+    Because(Cause),
 }
 
 // The oldest age at which a touch still counts, in ticks.
@@ -104,4 +113,25 @@ pub fn touch(file: &[u8], state: State, page: u32, made: u32, position: u32) -> 
         return refuse(18, 0, state);
     }
     moves::go_to(state, position)
+}
+
+// Why a channel, from 1, is quiet in the next frame.
+pub fn why_quiet(file: &[u8], state: State, channel: u32) -> Why
+    ensures { λ r. ⌜ r ≡ whyQuietOf (now (file .entry)) state channel ⌝ }
+{
+    let layout = reader::offsets::four_channels();
+    let judged = legality::judge_state(layout, file, state);
+    let number = judged.number;
+    if number != 0 {
+        return Why::Refused(common::refuse(number, judged.place));
+    }
+    if channel == 0 {
+        return Why::Refused(common::refuse(25, 0));
+    }
+    let i = channel as usize - 1;
+    if layout.channels <= i {
+        return Why::Refused(common::refuse(25, 0));
+    }
+    let voices = state.voices;
+    Why::Because(quiet::voice_cause(layout, file, voices[i]))
 }

@@ -112,12 +112,16 @@ unfolding isFreshVoice all allFrom
 fresh-by v e = rw e
 
 module _ (l : Layout) (extents : List Extent) (vs : List Voice) where
+  pub used-has : l .channels ≤ width → legalVoices l extents vs ≡ true → (i : ℕ) → i < l .channels → LegalVoice (l .samples) (voiceEnd extents (getD vs i blank)) (getD vs i blank)
+  unfolding legalVoices legalUsedVoice
+  used-has room e i h = voice-has (l .samples) (voiceEnd extents (getD vs i blank)) (getD vs i blank) (rw (lt-ltb i (l .channels) h) at (every-at (legalVoiceAt l extents vs) i width e (omega arith)))
+
   pub voices-has : l .channels ≤ width → length vs ≡ width → legalVoices l extents vs ≡ true → LegalVoices l extents vs
   unfolding legalVoices legalUsedVoice
   voices-has room long e =
       record {
         long = long;
-        used = λ i h. voice-has (l .samples) (voiceEnd extents (getD vs i blank)) (getD vs i blank) (rw (lt-ltb i (l .channels) h) at (every-at (legalVoiceAt l extents vs) i width e (omega arith)));
+        used = used-has room e;
         rest = λ i w h. fresh-has (getD vs i blank) (rw (le-ltb i (l .channels) h) at (every-at (legalVoiceAt l extents vs) i width e w));
       }
 
