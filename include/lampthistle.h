@@ -2,8 +2,8 @@
 
    ANSWERS
    A call answers a number, a place and a count. Number 0 is accepted; another number is a refusal, and the place says where, 0 where
-   none is named. The count is ticks played (play, play_stream) or bytes written (translate); 0 for the other calls and for every
-   refusal. All three cells are written by every call that takes them. lampthistle_refusal_text says a number in words.
+   none is named. The count is ticks played (play, play_stream), bytes written (translate) or a cause's number (why_quiet); 0 for the
+   other calls and for every refusal. All three cells are written by every call that takes them. lampthistle_refusal_text says a number in words.
 
    WHAT A CALLER OWES
    Every pointer is aligned for its type and good for its length for the whole call, and none that is written overlaps another. A
@@ -40,6 +40,10 @@
    A touch carries the page on which it was made, the state's clock when it was made, and the song position that it asks for. It is
    refused if it comes from another page, is older than 25 ticks or names a position past the song's end. A page change shuts out every
    touch made before it.
+
+   QUIET CHANNELS
+   Asked why a channel is quiet, the library names the first true cause for the next frame, from the voice as the state has it: the next
+   tick's work is not done first. lampthistle_cause_text says a cause in words.
 
    STREAMS
    A stream holds the ticks of a song as registers for a sound board: tempo, and for each channel sample, volume, period and start.
@@ -109,7 +113,9 @@ enum lampthistle_refusal {
     /* of a stream */
     LAMPTHISTLE_REFUSED_STREAM_LENGTH = 21,  /* its length */
     LAMPTHISTLE_REFUSED_STREAM_VERSION = 22, /* 4 */
-    LAMPTHISTLE_REFUSED_RECORD = 23          /* that record, or the first byte left */
+    LAMPTHISTLE_REFUSED_RECORD = 23,         /* that record, or the first byte left */
+    /* of a question why a channel is quiet */
+    LAMPTHISTLE_REFUSED_CHANNEL = 25 /* 0 */
 };
 
 /* What an answer's number means, for a person. */
@@ -135,7 +141,31 @@ static inline const char *lampthistle_refusal_text(uint64_t number) {
         return "the stream is shorter than 9 bytes, or its length is not 4 plus its first number";
     case LAMPTHISTLE_REFUSED_STREAM_VERSION: return "the stream's version is neither 1 nor 2";
     case LAMPTHISTLE_REFUSED_RECORD: return "a record of the stream is bad, or bytes are left over";
+    case LAMPTHISTLE_REFUSED_CHANNEL: return "the channel is not 1 to 4";
     default: return "an unknown refusal";
+    }
+}
+
+/* Why a channel is quiet in the next frame, in the order in which the causes are asked for, or that it sounds. */
+enum lampthistle_cause {
+    LAMPTHISTLE_CAUSE_NO_SAMPLE = 1, /* the voice's sample is 0 */
+    LAMPTHISTLE_CAUSE_NO_PERIOD = 2, /* the voice's period is 0 */
+    LAMPTHISTLE_CAUSE_STOPPED = 3,   /* the voice is stopped */
+    LAMPTHISTLE_CAUSE_NO_VOLUME = 4, /* the voice's volume is 0 */
+    LAMPTHISTLE_CAUSE_ZERO_BYTE = 5, /* the byte at the voice's index reads 0, as a sample's first two always do */
+    LAMPTHISTLE_CAUSE_SOUNDS = 6     /* none of these: what the voice gives is not 0 */
+};
+
+/* What a cause means, for a person. */
+static inline const char *lampthistle_cause_text(uint64_t cause) {
+    switch (cause) {
+    case LAMPTHISTLE_CAUSE_NO_SAMPLE: return "it has no sample";
+    case LAMPTHISTLE_CAUSE_NO_PERIOD: return "its period is 0";
+    case LAMPTHISTLE_CAUSE_STOPPED: return "its sample has ended";
+    case LAMPTHISTLE_CAUSE_NO_VOLUME: return "its volume is 0";
+    case LAMPTHISTLE_CAUSE_ZERO_BYTE: return "its sample is at a byte that reads 0";
+    case LAMPTHISTLE_CAUSE_SOUNDS: return "it sounds";
+    default: return "an unknown cause";
     }
 }
 
@@ -211,6 +241,11 @@ void lampthistle_touch(const uint8_t *file, size_t file_len, uint32_t state[LAMP
 /* Adds 1 to the page, modulo 2^32. Refusals 1 to 9, 14. */
 void lampthistle_change_page(const uint8_t *file, size_t file_len, uint32_t state[LAMPTHISTLE_STATE_CELLS],
                              uint64_t answer[LAMPTHISTLE_ANSWER_CELLS]);
+
+/* Why a channel, 1 to 4, is quiet in the next frame, or that it sounds; the count is an enum lampthistle_cause. The state stays. Refusals
+   1 to 9, 14, 25. */
+void lampthistle_why_quiet(const uint8_t *file, size_t file_len, const uint32_t state[LAMPTHISTLE_STATE_CELLS],
+                           uint32_t channel, uint64_t answer[LAMPTHISTLE_ANSWER_CELLS]);
 
 /* Writes the stream, of version 2, of the song's first `ticks` ticks, from the fresh state, into `room`; counts its bytes. Room past
    them stays. With room_len 0 it is a question for the length needed (12). Refusals 1 to 9, 11, 12. */

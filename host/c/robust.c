@@ -7,7 +7,7 @@
 #include <stdlib.h>
 #include <string.h>
 
-enum { GUARD = 32, PATTERN = 0x5A, KINDS = 24 };
+enum { GUARD = 32, PATTERN = 0x5A, KINDS = 26 };
 
 typedef struct block {
     uint8_t *at;
@@ -92,7 +92,7 @@ static void buffers(const input *in, int k, size_t numbers, size_t guard) {
     free(out.at), free(board.at), free(room.at);
 }
 
-/* The calls that write a state, which is a block of its own. */
+/* The calls that are given a state, which is a block of its own. */
 static void states(const input *in, int k) {
     uint64_t answer[LAMPTHISTLE_ANSWER_CELLS];
     block state = new_block(sizeof(lampthistle_state));
@@ -100,6 +100,12 @@ static void states(const input *in, int k) {
     memcpy(cells, in->state.at, state.bytes);
     lampthistle_judge(in->module.at, in->module.bytes, answer);
     count(answer, k);
+    for (uint32_t channel = 0; channel <= LAMPTHISTLE_CHANNELS + 1; channel++) {
+        lampthistle_why_quiet(in->module.at, in->module.bytes, cells, channel, answer);
+        count(answer, k);
+        check(answer[LAMPTHISTLE_COUNT] <= LAMPTHISTLE_CAUSE_SOUNDS, "an unknown cause", k);
+    }
+    check(memcmp(cells, in->state.at, state.bytes) == 0, "why_quiet changed the state", k);
     lampthistle_touch(in->module.at, in->module.bytes, cells, cells[LAMPTHISTLE_PAGE], cells[LAMPTHISTLE_CLOCK], 0, answer);
     count(answer, k);
     check(answer[LAMPTHISTLE_NUMBER] == 0 || memcmp(cells, in->state.at, state.bytes) == 0, "a refused touch changed the state", k);

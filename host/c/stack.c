@@ -46,6 +46,11 @@ static void *change_page(void *none) {
     return none;
 }
 
+static void *why_quiet(void *none) {
+    lampthistle_why_quiet(module, module_length, state.cell, 1, answer);
+    return none;
+}
+
 static void *translate(void *none) {
     lampthistle_translate(module, module_length, TICKS, room, ROOM, answer);
     if (answer[LAMPTHISTLE_NUMBER] == LAMPTHISTLE_ACCEPTED) stream_length = (size_t)answer[LAMPTHISTLE_COUNT];
@@ -82,8 +87,8 @@ static size_t measure_all(void) {
     static const struct {
         const char *name;
         void *(*call)(void *);
-    } CALLS[] = {{"fresh", fresh}, {"judge", judge}, {"play", play}, {"touch", touch}, {"change_page", change_page},
-                 {"translate", translate}, {"play_stream", play_stream}};
+    } CALLS[] = {{"fresh", fresh}, {"judge", judge}, {"play", play}, {"why_quiet", why_quiet}, {"touch", touch},
+                 {"change_page", change_page}, {"translate", translate}, {"play_stream", play_stream}};
     size_t most = 0, bytes, k;
     for (k = 0; k < sizeof CALLS / sizeof CALLS[0]; k++) {
         bytes = measure(CALLS[k].name, CALLS[k].call);

@@ -3,7 +3,7 @@ use crate::refusal;
 use std::{error, fmt};
 
 /// What a call answers. Number 0 is accepted; another number is a refusal, with its place. The count is what the call counts: ticks
-/// played or bytes written, 0 for the others and for every refusal.
+/// played, bytes written, or a cause's number; 0 for the others and for every refusal.
 #[must_use = "a refused call did nothing"]
 #[derive(Clone, Copy, Debug, PartialEq, Eq)]
 pub struct Answer {
@@ -111,6 +111,7 @@ fn meaning(number: u64) -> &'static str {
         }
         refusal::STREAM_VERSION => "the stream's version is neither 1 nor 2",
         refusal::RECORD => "a record of the stream is bad, or bytes are left over",
+        refusal::CHANNEL => "the channel is not 1 to 4",
         _ => "an unknown refusal",
     }
 }

@@ -23,6 +23,7 @@
 mod answer;
 pub mod cell;
 mod play;
+mod quiet;
 pub mod refusal;
 mod stream;
 mod sys;
@@ -30,9 +31,10 @@ mod version;
 
 pub use answer::{Answer, Refusal};
 pub use play::{
-    change_page, fresh, play, tick_frames, tick_numbers, tick_rest, touch, State, RATE,
+    change_page, fresh, play, tick_frames, tick_numbers, tick_rest, touch, State, CHANNELS, RATE,
     STATE_CELLS, TICK_NUMBERS,
 };
+pub use quiet::{why_quiet, Cause};
 pub use stream::{play_stream, translate, MOST_TICKS};
 pub use version::{same_cells, version, RELEASE, VERSION};
 

@@ -4,6 +4,9 @@ use crate::{cell, sys, Answer};
 /// Frames a second; a frame is two numbers, left first.
 pub const RATE: u32 = 48_000;
 
+/// The channels of a module, which count from 1.
+pub const CHANNELS: usize = 4;
+
 /// The most numbers that one tick takes: 3,750 frames at tempo 32.
 pub const TICK_NUMBERS: usize = 7_500;
 

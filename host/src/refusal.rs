@@ -18,3 +18,4 @@ pub const POSITION: u64 = 18;
 pub const STREAM_LENGTH: u64 = 21;
 pub const STREAM_VERSION: u64 = 22;
 pub const RECORD: u64 = 23;
+pub const CHANNEL: u64 = 25;

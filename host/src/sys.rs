@@ -32,6 +32,13 @@ extern "C" {
         state: *mut State,
         answer: *mut Answer,
     );
+    pub fn lampthistle_why_quiet(
+        file: *const u8,
+        file_len: usize,
+        state: *const State,
+        channel: u32,
+        answer: *mut Answer,
+    );
     pub fn lampthistle_translate(
         file: *const u8,
         file_len: usize,

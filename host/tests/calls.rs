@@ -1,7 +1,7 @@
 //! The safe wrappers, on modules small enough to know every answer.
 use lampthistle::{
     cell, change_page, fresh, judge, play, play_stream, tick_frames, tick_numbers, tick_rest,
-    touch, translate, Answer, Refusal,
+    touch, translate, why_quiet, Answer, Cause, Refusal,
 };
 
 /// One empty pattern and no samples: 2,108 bytes.
@@ -92,6 +92,59 @@ fn the_two_whole_streams_are_given() {
     }
     assert_eq!(translate(&empty(), 65_536, &mut []), refused(11, 0));
     assert_eq!(play_stream(&[], &empty(), &mut []), refused(21, 0));
+}
+
+#[test]
+fn a_quiet_channel_has_its_cause() {
+    let file = one_note();
+    let mut state = fresh();
+    for channel in 1..=4 {
+        assert_eq!(why_quiet(&file, &state, channel), Ok(Cause::NoSample));
+    }
+    assert_eq!(play(&file, &mut state, 1, &mut [0; 1_920]), accepted(1));
+    assert_eq!(why_quiet(&file, &state, 1), Ok(Cause::Sounds));
+    assert_eq!(why_quiet(&file, &state, 4), Ok(Cause::NoSample));
+    // From the last cause to the first: each comes before those that hold already.
+    let own = cell::channel(0);
+    for (cells, cause) in [
+        (&[(cell::VOICE_INDEX, 1)][..], Cause::ZeroByte),
+        (&[(cell::VOICE_VOLUME, 0)], Cause::NoVolume),
+        (
+            &[
+                (cell::VOICE_INDEX, 0),
+                (cell::VOICE_FRACTION, 0),
+                (cell::VOICE_STOPPED, 1),
+            ],
+            Cause::Stopped,
+        ),
+        (&[(cell::VOICE_PERIOD, 0)], Cause::NoPeriod),
+        (&[(cell::VOICE_SAMPLE, 0)], Cause::NoSample),
+    ] {
+        for &(which, number) in cells {
+            state.0[own + which] = number;
+        }
+        assert_eq!(why_quiet(&file, &state, 1), Ok(cause));
+    }
+}
+
+#[test]
+fn a_channel_that_is_not_there_is_refused() {
+    let refusal = |number, place| Err(Refusal { number, place });
+    let mut state = fresh();
+    for channel in [0, 5, u32::MAX] {
+        assert_eq!(why_quiet(&empty(), &state, channel), refusal(25, 0));
+    }
+    state.0[cell::ROW] = 64;
+    assert_eq!(why_quiet(&empty(), &state, 5), refusal(14, 0));
+    assert_eq!(why_quiet(&[], &state, 5), refusal(1, 0));
+}
+
+#[test]
+fn a_cause_is_an_answer() {
+    assert_eq!(Answer::from(Cause::Stopped), accepted(3));
+    assert_eq!(Cause::Stopped.to_string(), "its sample has ended");
+    let quiet = Cause::ALL.into_iter().filter(|cause| cause.is_quiet());
+    assert_eq!(quiet.count(), 5);
 }
 
 #[test]

@@ -47,7 +47,7 @@ fn the_manual_has_every_command_with_its_options() {
     let manual = manual();
     let (_, common) = manual.split_once("\n.SH OPTIONS").unwrap();
     let commands = commands();
-    assert!(commands.len() >= 8, "{commands:?}");
+    assert!(commands.len() >= 9, "{commands:?}");
     let mut missing = Vec::new();
     for command in commands {
         let (part, help) = (part(&manual, &command), help(&[&command, "--help"]));

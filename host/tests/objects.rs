@@ -44,6 +44,7 @@ fn objects() -> String {
         &["judge", "--notes", "--json", EFFECTS, "no/such"][..],
         &["info", "--json", EFFECTS],
         &["trace", "--json", FLOW],
+        &["why", "--json", FLOW],
         &["replay", "--json", FLOW, SCRIPT],
         &["replay", "--json", "--check", EFFECTS, &record],
         &["compare", "--json", FLOW, &sound],

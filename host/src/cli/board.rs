@@ -5,9 +5,9 @@
 //! piece is played as a stream of its own, which begins at the last such tick before the oldest of the channels' last starts; the frames
 //! of this run-up are left out. docs/DECISIONS.md says what this costs.
 use super::input::Source;
-use super::records::{self, Lengths, Records, CHANNELS};
+use super::records::{self, Lengths, Records};
 use super::stop::Stop;
-use lampthistle::{refusal, Answer};
+use lampthistle::{refusal, Answer, CHANNELS};
 
 /// Numbers of a piece, about 90 seconds of sound; more where the run-up is longer, so that not all time goes into run-ups.
 const PIECE_NUMBERS: usize = 1 << 23;

@@ -26,6 +26,7 @@ mod stream;
 mod target;
 mod trace;
 mod trial;
+mod why;
 mod words;
 
 use std::ffi::{OsStr, OsString};
@@ -42,13 +43,14 @@ struct Command {
     run: fn(&Words) -> Result<bool, Stop>,
 }
 
-const COMMANDS: [&Command; 8] = [
+const COMMANDS: [&Command; 9] = [
     &judge::COMMAND,
     &info::COMMAND,
     &play::COMMAND,
     &stream::TRANSLATE,
     &stream::BOARD,
     &trace::COMMAND,
+    &why::COMMAND,
     &replay::COMMAND,
     &compare::COMMAND,
 ];
@@ -62,6 +64,7 @@ lampthistle: plays four-channel ProTracker modules (M.K.) with the proved librar
   lampthistle translate FILE --ticks N --out OUT   writes the tick stream of the first N ticks
   lampthistle board STREAM FILE --out OUT          plays a tick stream with the module's samples
   lampthistle trace FILE                           a line a tick of a module or a stream
+  lampthistle why FILE                             why each channel is quiet, or that it sounds
   lampthistle replay FILE SCRIPT                   runs a trial again, records it, or checks its record
   lampthistle compare FILE [STREAM | SOUND]        the player against the board, a stream or a recording
   lampthistle help COMMAND                         more on a command, with an example

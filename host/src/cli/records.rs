@@ -1,7 +1,6 @@
 //! The records of a tick stream that the library wrote or accepted, read and written by offset.
-use lampthistle::{tick_frames, tick_rest};
+use lampthistle::{tick_frames, tick_rest, CHANNELS};
 
-pub const CHANNELS: usize = 4;
 /// Where the count of ticks is, and the bytes before the first record and of one channel's command.
 const TICKS: std::ops::Range<usize> = 5..9;
 const START: usize = 9;

@@ -1,6 +1,6 @@
 //! replay FILE SCRIPT: runs a trial again, records it, or checks its record.
 use super::input::{self, Source};
-use super::json::{self, Fields};
+use super::json::{self, Fields, Value};
 use super::output::{self, counted, write_bytes};
 use super::report::{self, plain_accepted};
 use super::script::{self, Call, Results, Script};
@@ -8,8 +8,8 @@ use super::sound::{self, check_room, Sound};
 use super::stop::Stop;
 use super::trial::Trial;
 use super::words::Words;
-use super::Command;
-use lampthistle::{State, TICK_NUMBERS};
+use super::{why, Command};
+use lampthistle::{Cause, State, TICK_NUMBERS};
 
 pub const COMMAND: Command = Command {
     name: "replay",
@@ -22,13 +22,14 @@ Runs a trial again, from a fresh state. A line of SCRIPT is one call:
   play N                     plays N ticks
   touch PAGE MADE POSITION   a touch made on PAGE at clock MADE for a song position
   page                       a page change
+  why                        why each channel is quiet, as why says it
 # begins a comment. Prints each call's answer, and the clock, page and place after it; the frames go to OUT, as in play. A refused touch
 changes nothing, and the trial goes on: a trial that ran ends with 0.
 --record writes the script again to RECORD, with the module's checksum, and for each call its answer, the clock and a checksum of the
 frames so far (docs/FORMATS.md). A record is a script, too.
 --check plays a record, and says that every answer and checksum came again, or which line differs first and how.
---plain prints NUMBER PLACE COUNT CLOCK PAGE POSITION ROW TICK a call; with --check NUMBER PLACE COUNT, the count in calls. --json
-prints an object a call; with --check one.
+--plain prints NUMBER PLACE COUNT CLOCK PAGE POSITION ROW TICK a call, and after them, of why, each channel's cause; with --check NUMBER
+PLACE COUNT, the count in calls. --json prints an object a call; with --check one.
 
 Examples:
   lampthistle replay song.mod trial.txt --record trial.record
@@ -153,7 +154,7 @@ fn check(
             return Err(no_record(&format!(":{number}: {call}: has no results")));
         };
         let results = trial.call(call)?;
-        if let Some(what) = results.difference(recorded) {
+        if let Some(what) = results.difference(call, recorded) {
             return Ok(Some((number, format!("{call}: {what}"))));
         }
     }
@@ -194,7 +195,7 @@ fn checked(
     output::tell(words, &text).map(|()| again)
 }
 
-/// A call's line.
+/// A call's line, and below it a line for each that it counts.
 fn told(words: &Words, file: &str, call: &Call, results: &Results, state: &State) -> String {
     if words.json {
         return json::object(fields(file, call, results, state));
@@ -205,15 +206,27 @@ fn told(words: &Words, file: &str, call: &Call, results: &Results, state: &State
     if words.plain {
         let bare = report::plain(answer);
         let bare = bare.trim_end();
-        return format!("{bare} {clock} {page} {position} {row} {tick}\n");
+        let each: String = results.each.iter().map(|n| format!(" {n}")).collect();
+        return format!("{bare} {clock} {page} {position} {row} {tick}{each}\n");
     }
     let played = match call {
         Call::Play(_) if answer.is_accepted() => format!(", {}", counted(answer.count, "tick")),
         _ => String::new(),
     };
-    format!(
+    let line = format!(
         "{call}: {answer}{played}; clock {clock}, page {page}, position {position}, row {row}, tick {tick}\n"
-    )
+    );
+    line + &below(call, results)
+}
+
+/// A line for each that a call counts.
+fn below(call: &Call, results: &Results) -> String {
+    let each = results.each.iter().enumerate();
+    let lines = each.filter_map(|(k, &number)| match call {
+        Call::Why => Cause::of(number).map(|cause| why::said(k as u32 + 1, cause)),
+        _ => None,
+    });
+    lines.map(|line| format!("  {line}\n")).collect()
 }
 
 fn fields(file: &str, call: &Call, results: &Results, state: &State) -> Fields {
@@ -228,5 +241,8 @@ fn fields(file: &str, call: &Call, results: &Results, state: &State) -> Fields {
         ("tick", state.tick().into()),
         ("sound", results.sound.to_string().into()),
     ]);
+    if let Call::Why = call {
+        fields.push(("causes", Value::list(results.each.iter().copied())));
+    }
     fields
 }

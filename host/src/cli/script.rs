@@ -13,12 +13,25 @@ pub enum Call {
     Play(u32),
     Touch { page: u32, made: u32, position: u32 },
     Page,
+    Why,
+}
+
+impl Call {
+    /// What a call counts that has a number for each of them, and what that number is.
+    fn each(&self) -> Option<(&'static str, &'static str)> {
+        match self {
+            Call::Why => Some(("channel", "cause")),
+            _ => None,
+        }
+    }
 }
 
 /// What came of a call: its answer, the clock after it, and the checksum of all frames so far.
-#[derive(Clone, Copy)]
+#[derive(Clone)]
 pub struct Results {
     pub answer: Answer,
+    /// A number for each that the call counts: of `why` each channel's cause. Empty for the other calls.
+    pub each: Vec<u64>,
     pub clock: u32,
     pub sound: Checksum,
 }
@@ -96,7 +109,7 @@ pub fn parse<'a>(name: &str, text: &'a str) -> Result<Script<'a>, Stop> {
 fn bad_line(name: &str, number: usize, said: &str) -> Stop {
     let said = quoted(OsStr::new(said));
     Stop::Cannot(format!(
-        "{name}:{number}: not play N, touch PAGE MADE POSITION or page, nor a record's header: {said}"
+        "{name}:{number}: not play N, touch PAGE MADE POSITION, page or why, nor a record's header: {said}"
     ))
 }
 
@@ -120,11 +133,10 @@ fn read_line(said: &str, header: &mut &[&str]) -> Option<Said> {
 }
 
 fn read_call(said: &str) -> Option<Said> {
-    let (call, results) = match said.split_once('=') {
-        Some((call, results)) => (call, Some(read_results(results)?)),
-        None => (said, None),
-    };
-    let mut words = call.split_whitespace();
+    let (said, results) = said
+        .split_once('=')
+        .map_or((said, None), |(call, results)| (call, Some(results)));
+    let mut words = said.split_whitespace();
     let name = words.next()?;
     let numbers: Option<Vec<u32>> = words.map(number).collect();
     let call = match (name, numbers?.as_slice()) {
@@ -135,7 +147,12 @@ fn read_call(said: &str) -> Option<Said> {
             position,
         },
         ("page", []) => Call::Page,
+        ("why", []) => Call::Why,
         _ => return None,
+    };
+    let results = match results {
+        Some(text) => Some(read_results(&call, text)?),
+        None => None,
     };
     Some(Said::Call(call, results))
 }
@@ -146,20 +163,26 @@ fn number<N: FromStr>(word: &str) -> Option<N> {
     word.parse().ok().filter(|_| digits)
 }
 
-fn read_results(text: &str) -> Option<Results> {
+fn read_results(call: &Call, text: &str) -> Option<Results> {
     let words: Vec<&str> = text.split_whitespace().collect();
-    let &[first, place, count, clock, sound] = words.as_slice() else {
+    let [first, place, count, each @ .., clock, sound] = words.as_slice() else {
         return None;
     };
-    Some(Results {
+    let results = Results {
         answer: Answer {
             number: number(first)?,
             place: number(place)?,
             count: number(count)?,
         },
+        each: each
+            .iter()
+            .map(|word| number(word))
+            .collect::<Option<_>>()?,
         clock: number(clock)?,
         sound: Checksum::read(sound)?,
-    })
+    };
+    let counted = call.each().map_or(0, |_| results.answer.count);
+    (results.each.len() as u64 == counted).then_some(results)
 }
 
 /// The checksum by which a record knows its module.
@@ -194,6 +217,7 @@ impl fmt::Display for Call {
                 position,
             } => write!(f, "touch {page} {made} {position}"),
             Call::Page => f.write_str("page"),
+            Call::Why => f.write_str("why"),
         }
     }
 }
@@ -205,14 +229,17 @@ impl fmt::Display for Results {
             place,
             count,
         } = self.answer;
-        let (clock, sound) = (self.clock, self.sound);
-        write!(f, "{number} {place} {count} {clock} {sound}")
+        write!(f, "{number} {place} {count}")?;
+        for number in &self.each {
+            write!(f, " {number}")?;
+        }
+        write!(f, " {} {}", self.clock, self.sound)
     }
 }
 
 impl Results {
-    /// How a recorded result differs from this one; none where both are the same.
-    pub fn difference(&self, recorded: &Results) -> Option<String> {
+    /// How a recorded result of the call differs from this one; none where both are the same.
+    pub fn difference(&self, call: &Call, recorded: &Results) -> Option<String> {
         let pairs = [
             ("number", self.answer.number, recorded.answer.number),
             ("place", self.answer.place, recorded.answer.place),
@@ -222,6 +249,12 @@ impl Results {
         let differs = pairs.iter().find(|(_, own, other)| own != other);
         if let Some((what, own, other)) = differs {
             return Some(format!("{what} {own}, recorded {other}"));
+        }
+        let (counted, what) = call.each().unwrap_or_default();
+        for (k, (own, other)) in (1..).zip(self.each.iter().zip(&recorded.each)) {
+            if own != other {
+                return Some(format!("{counted} {k}: {what} {own}, recorded {other}"));
+            }
         }
         let (own, other) = (self.sound, recorded.sound);
         (own != other).then(|| format!("sound {own}, recorded {other}"))

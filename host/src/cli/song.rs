@@ -1,6 +1,6 @@
 //! A module that is played one tick a call.
 use super::layout;
-use lampthistle::{tick_numbers, Answer, State, TICK_NUMBERS};
+use lampthistle::{tick_numbers, Answer, Cause, Refusal, State, TICK_NUMBERS};
 use std::borrow::Cow;
 
 pub struct Song<'a> {
@@ -46,5 +46,9 @@ impl<'a> Song<'a> {
 
     pub fn change_page(&mut self) -> Answer {
         lampthistle::change_page(&self.file, &mut self.state)
+    }
+
+    pub fn why_quiet(&self, channel: u32) -> Result<Cause, Refusal> {
+        lampthistle::why_quiet(&self.file, &self.state, channel)
     }
 }

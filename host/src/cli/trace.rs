@@ -4,14 +4,14 @@ use super::json::{self, Fields, Value};
 use super::layout;
 use super::length::ticks_asked;
 use super::output::say;
-use super::records::{records, version, Command as Registers, Lengths, Record, CHANNELS};
+use super::records::{records, version, Command as Registers, Lengths, Record};
 use super::report::plain_accepted;
 use super::song::Song;
 use super::stop::Stop;
 use super::stream::translated;
 use super::words::Words;
 use super::Command;
-use lampthistle::TICK_NUMBERS;
+use lampthistle::{CHANNELS, TICK_NUMBERS};
 
 pub const COMMAND: Command = Command {
     name: "trace",

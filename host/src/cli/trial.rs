@@ -5,7 +5,7 @@ use super::script::{Call, Results};
 use super::song::Song;
 use super::sound::Sound;
 use super::stop::Stop;
-use lampthistle::{Answer, State, TICK_NUMBERS};
+use lampthistle::{Answer, Cause, Refusal, State, CHANNELS, TICK_NUMBERS};
 
 pub struct Trial<'a> {
     song: Song<'a>,
@@ -49,6 +49,7 @@ impl<'a> Trial<'a> {
 
     /// Makes a call.
     pub fn call(&mut self, call: &Call) -> Result<Results, Stop> {
+        let mut each = Vec::new();
         let answer = match *call {
             Call::Play(ticks) => self.play(ticks)?,
             Call::Touch {
@@ -57,9 +58,11 @@ impl<'a> Trial<'a> {
                 position,
             } => self.song.touch(page, made, position),
             Call::Page => self.song.change_page(),
+            Call::Why => self.why(&mut each),
         };
         Ok(Results {
             answer,
+            each,
             clock: self.song.state.clock(),
             sound: self.heard,
         })
@@ -90,6 +93,22 @@ impl<'a> Trial<'a> {
             progress.show("ticks", answer.count, ticks.into());
         }
         Ok(answer)
+    }
+
+    /// Asks for each channel's cause, and counts the channels.
+    fn why(&self, each: &mut Vec<u64>) -> Answer {
+        let causes = (1..=CHANNELS as u32).map(|channel| self.song.why_quiet(channel));
+        match causes.collect::<Result<Vec<Cause>, Refusal>>() {
+            Ok(causes) => {
+                each.extend(causes.iter().map(|cause| cause.number()));
+                Answer {
+                    number: 0,
+                    place: 0,
+                    count: causes.len() as u64,
+                }
+            }
+            Err(refusal) => refusal.into(),
+        }
     }
 
     /// Finishes the sound file.

@@ -9,3 +9,4 @@ mod songs;
 mod sounds;
 mod streams;
 mod trials;
+mod whys;

@@ -59,6 +59,22 @@ fn trace_prints_an_object_a_tick() {
 }
 
 #[test]
+fn why_prints_an_object_a_channel() {
+    let name = stored("effects");
+    let (status, lines) = lines(&["why", &name, "--ticks", "3"]);
+    assert_eq!((status, lines.len()), (0, 4));
+    let start = format!(
+        r#"{{"file":"{name}","number":0,"place":0,"meaning":"accepted","ticks":3,"channel":4,"#
+    );
+    assert_eq!(lines[3], start + r#""cause":1,"says":"it has no sample"}"#);
+    let (status, lines) = self::lines(&["why", &name, "--channel", "5"]);
+    let line = format!(
+        r#"{{"file":"{name}","number":25,"place":0,"meaning":"the channel is not 1 to 4"}}"#
+    );
+    assert_eq!((status, lines), (1, vec![line]));
+}
+
+#[test]
 fn replay_prints_an_object_a_call() {
     let script = own("object.txt");
     std::fs::write(&script, "play 5\ntouch 1 5 0\n").unwrap();
@@ -101,7 +117,7 @@ fn compare_prints_one_object() {
 
 #[test]
 fn a_refusal_is_an_object_too() {
-    for command in ["info", "trace", "compare"] {
+    for command in ["info", "trace", "why", "compare"] {
         let (status, lines) = lines(&[command, "/dev/null"]);
         let line = r#"{"file":"/dev/null","number":1,"place":0,"meaning":"the file is shorter than 1,084 bytes"}"#;
         assert_eq!((status, lines), (1, vec![line.to_string()]), "{command}");

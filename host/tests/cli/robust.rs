@@ -17,7 +17,7 @@ fn stops(words: &[&str]) -> String {
 
 #[test]
 fn files_that_cannot_be_read_are_named() {
-    for command in ["judge", "info", "trace", "compare"] {
+    for command in ["judge", "info", "trace", "why", "compare"] {
         assert!(stops(&[command, "."]).contains(".: Is a directory"));
         assert!(stops(&[command, "no/such"]).contains("no/such: No such file"));
     }
@@ -51,7 +51,7 @@ fn files_that_are_no_modules_are_refused() {
         ("/dev/null", "1 0 0\n"),
         (zeros, "2 1080 0\n"),
     ] {
-        for command in ["info", "trace", "compare"] {
+        for command in ["info", "trace", "why", "compare"] {
             let (status, out, err) = told(&[command, "--plain", file]);
             assert_eq!(
                 (status, out.as_str(), err.as_str()),
@@ -90,7 +90,7 @@ fn standard_input_is_read_once() {
 }
 
 /// Command lines that are wrong, and what the message says.
-const WRONG: [(&str, &str); 16] = [
+const WRONG: [(&str, &str); 18] = [
     ("play", "no --out"),
     ("play --out x.raw", "no FILE"),
     ("play MODULE --out", "--out needs a value"),
@@ -105,6 +105,8 @@ const WRONG: [(&str, &str); 16] = [
     ("translate MODULE --out x.stream", "no --ticks"),
     ("board MODULE --out x.raw", "no FILE"),
     ("judge", "no FILE"),
+    ("why", "no FILE"),
+    ("why MODULE --channel left", "--channel: not a number"),
     ("sing", "no such command: sing"),
     ("", "no command"),
 ];
@@ -142,6 +144,7 @@ fn a_full_disk_is_told() {
         &["judge", module][..],
         &["info", module],
         &["trace", module],
+        &["why", module],
         &["play", module, "--out", "-"],
         &["translate", module, "--ticks", "9", "--out", "-"],
         &["--help"],
@@ -207,6 +210,7 @@ fn any_words_end_with_a_status() {
         "translate",
         "board",
         "trace",
+        "why",
         "replay",
         "compare",
         "",

@@ -40,6 +40,7 @@ fn replay_names_a_bad_line() {
         "touch 1 2",
         "pages",
         "page 1",
+        "why 1",
     ] {
         std::fs::write(&script, format!("play 1\n{line}\n")).unwrap();
         let words = ["replay", &stored("flow"), script.to_str().unwrap()];
@@ -170,6 +171,58 @@ fn a_record_that_differs_says_where_and_how() {
     ]);
     assert_eq!(status, 1);
     assert!(err.contains("o.record:3: module "), "{err}");
+}
+
+#[test]
+fn why_has_a_cause_a_channel() {
+    let script = text("why.txt", "why\nplay 5\nwhy\n");
+    let (status, out, _) = told(&["replay", &stored("flow"), &script]);
+    let quiet = "why: accepted; clock 0, page 0, position 0, row 0, tick 0\n  \
+        channel 1: quiet: it has no sample\n  channel 2: quiet: it has no sample\n  \
+        channel 3: quiet: it has no sample\n  channel 4: quiet: it has no sample\n";
+    assert_eq!(status, 0);
+    assert!(out.starts_with(quiet), "{out}");
+    let after = |ticks: &str| told(&["why", &stored("flow"), "--ticks", ticks]).1;
+    for line in after("5").lines() {
+        assert!(out.contains(&format!("\n  {line}\n")), "{out}");
+    }
+    let (_, out, _) = told(&["replay", "--plain", &stored("flow"), &script]);
+    let lines: Vec<&str> = out.lines().collect();
+    assert_eq!(lines[0], "0 0 4 0 0 0 0 0 1 1 1 1");
+    assert_eq!(lines[1], "0 0 5 5 0 0 1 2");
+    assert!(lines[2].starts_with("0 0 4 5 0 0 1 2 "), "{out}");
+    let (_, out, _) = told(&["replay", "--json", &stored("flow"), &script]);
+    assert!(out.contains(r#","causes":[1,1,1,1]}"#), "{out}");
+}
+
+#[test]
+fn recorded_causes_come_again() {
+    let script = text("causes.txt", "why\nplay 5\nwhy # then\n");
+    let words = ["replay", &stored("flow"), &script, "--record", "-"];
+    let (status, written, _) = told(&words);
+    let empty = checksum(&[]);
+    let lines: Vec<&str> = written.lines().collect();
+    assert_eq!(status, 0);
+    assert_eq!(lines[3], format!("why = 0 0 4 1 1 1 1 0 {empty}"));
+    let record = text("causes.record", &written);
+    let check = |record: &str| told(&["replay", &stored("flow"), record, "--check"]);
+    assert_eq!(check(&record).0, 0);
+    let other = written.replacen("4 1 1 1 1", "4 1 1 5 1", 1);
+    let (status, _, err) = check(&text("causes.record", &other));
+    assert_eq!(status, 1);
+    assert!(
+        err.ends_with(":4: why: channel 3: cause 1, recorded 5\n"),
+        "{err}"
+    );
+    // A cause too few, and causes where none belong.
+    for (from, to) in [
+        ("4 1 1 1 1", "4 1 1 1"),
+        ("play 5 = 0 0 5 5", "play 5 = 0 0 5 1 5"),
+    ] {
+        let (status, _, err) = check(&text("causes.record", &written.replacen(from, to, 1)));
+        assert_eq!(status, 2, "{to}");
+        assert!(err.contains(": not play N"), "{err}");
+    }
 }
 
 #[test]

@@ -20,6 +20,25 @@ fn formats_has_every_refusal() {
     assert_eq!(rows.collect::<Vec<_>>(), expected);
 }
 
+#[test]
+fn api_has_every_cause() {
+    let api = file("docs/API.md");
+    let rows = api
+        .lines()
+        .skip_while(|line| *line != "| No. | Name | Means | Holds where |")
+        .skip(2)
+        .take_while(|line| line.starts_with('|'));
+    let expected: Vec<String> = entries("lampthistle_cause")
+        .iter()
+        .map(|entry| {
+            let (number, name) = (entry.number, entry.name.strip_prefix("CAUSE_").unwrap());
+            let words = words(&entry.name);
+            format!("| {number} | `{name}` | {words} | {} |", entry.comment)
+        })
+        .collect();
+    assert_eq!(rows.collect::<Vec<_>>(), expected);
+}
+
 /// The table gives where each line's cells begin, and their names.
 #[test]
 fn api_has_every_cell() {

@@ -1,6 +1,8 @@
 //! The Rust wrappers' names, words and limits.
 use crate::parse::{constants, defined, entries, file, header, refusals, words, Entry};
-use lampthistle::{same_cells, Answer, MOST_TICKS, RATE, STATE_CELLS, TICK_NUMBERS, VERSION};
+use lampthistle::{
+    same_cells, Answer, Cause, CHANNELS, MOST_TICKS, RATE, STATE_CELLS, TICK_NUMBERS, VERSION,
+};
 
 fn pairs(entries: Vec<Entry>) -> Vec<(String, u64)> {
     entries
@@ -43,8 +45,24 @@ fn answers_have_the_header_s_words() {
 }
 
 #[test]
+fn causes_have_the_header_s_names_numbers_and_words() {
+    let all = entries("lampthistle_cause");
+    assert_eq!(all.len(), Cause::ALL.len());
+    for (entry, cause) in all.iter().zip(Cause::ALL) {
+        let name = entry.name.strip_prefix("CAUSE_").unwrap();
+        let joined = name.replace('_', "").to_lowercase();
+        assert_eq!(format!("{cause:?}").to_lowercase(), joined);
+        assert_eq!(cause.number(), entry.number);
+        assert_eq!(cause.meaning(), words(&entry.name));
+        assert_eq!(Cause::of(entry.number), Some(cause));
+    }
+    assert_eq!((Cause::of(0), Cause::of(7)), (None, None));
+}
+
+#[test]
 fn limits_are_the_header_s() {
     assert_eq!(defined("RATE"), RATE.to_string());
+    assert_eq!(defined("CHANNELS"), CHANNELS.to_string());
     assert_eq!(defined("STATE_CELLS"), STATE_CELLS.to_string());
     assert_eq!(defined("TICK_NUMBERS"), TICK_NUMBERS.to_string());
     assert_eq!(defined("MOST_TICKS"), MOST_TICKS.to_string());

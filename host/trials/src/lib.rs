@@ -10,6 +10,7 @@ pub mod lengths;
 pub mod lent;
 pub mod play_cases;
 pub mod playing;
+pub mod quiet;
 pub mod runs;
 pub mod say;
 pub mod streaming;
