@@ -11,6 +11,7 @@ mod quiet;
 mod records;
 mod state;
 mod stream;
+mod touch;
 mod voice;
 mod work;
 
@@ -18,10 +19,11 @@ use module::Module;
 
 pub use floats::{delivered, mono, side, Frame};
 pub use length::{tick_frames, tick_rest};
-pub use play::{change_page, fresh, play, play_floats, touch, trace_tick, Trace};
+pub use play::{change_page, fresh, play, play_floats, trace_tick, Trace};
 pub use quiet::{why_quiet, Cause};
 pub use records::{decode, encode, Command, Stream, Tick};
 pub use stream::{play_stream, play_stream_floats, tick_list, translate};
+pub use touch::{touch, touch_burst};
 pub use voice::{growth, End, Voice};
 
 /// The numbers of a state where it is handed over: position, row, tick in row, delay, next
@@ -31,7 +33,7 @@ pub use voice::{growth, End, Voice};
 pub const STATE_CELLS: usize = 57;
 
 /// What a call answers: the refusal's number and place, or number and place 0 and the count
-/// of ticks played or bytes written, or the cause of quiet.
+/// of ticks played, bytes written or touches answered, or the cause of quiet.
 #[derive(Clone, Copy, Debug, PartialEq, Eq)]
 pub struct Answer {
     pub number: u64,

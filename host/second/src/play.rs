@@ -1,4 +1,4 @@
-//! Playing a module from a state: whole ticks that fit, touches, page changes and single ticks.
+//! Playing a module from a state: whole ticks that fit, page changes and single ticks.
 
 use crate::length::tick_frames;
 use crate::module::Module;
@@ -7,9 +7,6 @@ use crate::state::State;
 use crate::voice::{ends, frames, End, Voice, CHANNELS};
 use crate::work::{finish, work};
 use crate::{Answer, STATE_CELLS};
-
-/// The age in ticks up to which a touch is taken.
-const OLDEST_TOUCH: u32 = 25;
 
 /// The cells of a fresh state.
 pub fn fresh() -> [u32; STATE_CELLS] {
@@ -70,39 +67,6 @@ fn play_ticks(module: &Module, state: &mut State, ticks: u32, output: &mut impl 
         played += 1;
     }
     played
-}
-
-/// Takes a touch made on `page` at clock `made` that names a song position.
-pub fn touch(
-    file: &[u8],
-    cells: &mut [u32; STATE_CELLS],
-    page: u32,
-    made: u32,
-    position: u32,
-) -> Answer {
-    let (module, mut state) = match read(file, cells) {
-        Ok(read) => read,
-        Err(refusal) => return refusal,
-    };
-    if page != state.page {
-        return Answer::refused(16, 0);
-    }
-    if state.clock.wrapping_sub(made) > OLDEST_TOUCH {
-        return Answer::refused(17, 0);
-    }
-    if position >= module.song_length {
-        return Answer::refused(18, 0);
-    }
-    state.position = position;
-    state.next_position = position;
-    state.row = 0;
-    state.next_row = 0;
-    state.tick = 0;
-    state.delay = 0;
-    state.loop_row = 0;
-    state.loop_count = 0;
-    state.write(cells);
-    Answer::accepted(0)
 }
 
 pub fn change_page(file: &[u8], cells: &mut [u32; STATE_CELLS]) -> Answer {

@@ -2,6 +2,7 @@
 
 mod bad_streams;
 pub mod breaks;
+pub mod bursts;
 mod cells;
 pub mod damage;
 pub mod draft;

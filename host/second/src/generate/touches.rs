@@ -14,8 +14,15 @@ pub struct Touch {
 
 /// A touch, good or refused, for a state of an accepted module.
 pub fn touch(seed: u64, file: &[u8], state: &[u32; STATE_CELLS]) -> Touch {
-    let mut random = Random::new(seed);
     let song_length = accepted(file).song_length;
+    any_touch(&mut Random::new(seed), song_length, state)
+}
+
+pub(super) fn any_touch(
+    random: &mut Random,
+    song_length: u32,
+    state: &[u32; STATE_CELLS],
+) -> Touch {
     let (clock, page) = (state[11], state[12]);
     let near = [0, 1, 24, 25, 26, 27, u32::MAX, u32::MAX - 1, 1 << 31];
     let age = if random.chance(60) {

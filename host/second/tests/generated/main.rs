@@ -1,6 +1,7 @@
 //! Generated modules, states, touches and streams: what holds of all of them.
 
 mod breaks;
+mod bursts;
 mod common;
 mod ends;
 mod floats;
