@@ -5,6 +5,7 @@ ghost use Rattle.reader.specs.Judge.{judgeOf};
 ghost use Rattle.player.specs.State.{freshState};
 ghost use Rattle.player.specs.Play.{playOf};
 ghost use Rattle.player.specs.Touch.{changePageOf, touchOf};
+ghost use Rattle.player.specs.Burst.{burstOf};
 ghost use Rattle.player.specs.Quiet.{whyQuietOf, whyAnswer};
 ghost use Rattle.cells.specs.Cells.{stateCells, stateOf};
 ghost use Rattle.translator.specs.Translate.{translateOf};
@@ -124,6 +125,32 @@ pub extern "C" fn lampthistle_touch(
     ensures stated { λ _. ⌜ now (state .exit) ≡ cellsAfter (touchOf (now (file .entry)) (stateOf (now (state .entry))) page made position) (now (state .entry)) ⌝ }
 {
     let reply = player::touch(file, cells::state_of(state), page, made, position);
+    put_reply(reply, state, answer);
+}
+
+// A burst of touches: the page, the clock when made and the position of each, and an answer for each.
+#[no_mangle]
+pub extern "C" fn lampthistle_touch_burst(
+    file: &[u8],
+    state: &mut [u32; CELLS],
+    pages: &[u32],
+    mades: &[u32],
+    positions: &[u32],
+    answers: &mut [u32],
+    answer: &mut [u64; ANSWER_CELLS],
+)
+    ensures answered { λ _. ⌜ now (answer .exit) ≡ answerCells (burstOf (now (file .entry)) (stateOf (now (state .entry))) (record { pages = now (pages .entry); mades = now (mades .entry); positions = now (positions .entry) }) (now (answers .entry)) .reply .answer) ⌝ }
+    ensures stated { λ _. ⌜ now (state .exit) ≡ cellsAfter (burstOf (now (file .entry)) (stateOf (now (state .entry))) (record { pages = now (pages .entry); mades = now (mades .entry); positions = now (positions .entry) }) (now (answers .entry)) .reply) (now (state .entry)) ⌝ }
+    ensures written { λ _. ⌜ now (answers .exit) ≡ burstOf (now (file .entry)) (stateOf (now (state .entry))) (record { pages = now (pages .entry); mades = now (mades .entry); positions = now (positions .entry) }) (now (answers .entry)) .out ⌝ }
+{
+    let reply = player::touch_burst(
+        file,
+        cells::state_of(state),
+        pages,
+        mades,
+        positions,
+        answers,
+    );
     put_reply(reply, state, answer);
 }
 

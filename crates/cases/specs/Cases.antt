@@ -11,7 +11,7 @@ use Rattle.ticks.specs.Commands.{nothing}
 use Rattle.common.specs.Answers.{refused, accepted, refusing}
 use Rattle.ticks.specs.declared.Command.{Command}
 use Rattle.reader.specs.declared.Cell.{Cell}
-use Rattle.reader.specs.File.{Module, moduleOf, channelCount, patternsOf, samplePlace}
+use Rattle.reader.specs.File.{Module, moduleOf, songLength, channelCount, patternsOf, samplePlace}
 use Rattle.reader.specs.Judge.{cellLines, restLines, verdict, tagged, badLength, badEntry, badVolume, badLoop, badNumberAt, badPeriodAt, badAt}
 use Rattle.reader.specs.Cells.{cellFrom, cellAt}
 use Rattle.reader.specs.Samples.{extentOf}
@@ -138,7 +138,7 @@ clock3-legal : legalState module1 clock3 ≡ true
 unfolding header row bytes file clock3 every each all allFrom freshSong legalPlace legalLoop legalCourse legalTime legalOrFresh legalAt legalSong legalChannel isFresh legalIndex legalVoice isFreshVoice legalUsedVoice legalVoices freshState legalState
 clock3-legal = refl
 
-touch-number : (made : ℕ) → touchMade made ≡ refusing (λ number place. reply (refused number place) clock3) (reply (accepted 0) (withSong clock3 (touchedAt (clock3 .song) 0))) (touchLines module1 (clock3 .song .desk) 0 made 0) .answer .number
+touch-number : (made : ℕ) → touchMade made ≡ refusing (λ number place. reply (refused number place) clock3) (reply (accepted 0) (withSong clock3 (touchedAt (clock3 .song) 0))) (touchLines (songLength module1) (clock3 .song .desk) 0 made 0) .answer .number
 touch-number made = ap (λ (r : Reply). r .answer .number) (touch-judged file file-accepted clock3 clock3-legal 0 made 0)
 
 pub cases : Cases

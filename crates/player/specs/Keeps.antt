@@ -5,9 +5,10 @@ use mathlib.Core.Path.{_≡_, refl, subst}
 use mathlib.Core.Bool.{true}
 use mathlib.Core.List.{List}
 use native.Mathlib.Omega.{arith}
-use borrow.Author.Tests.{ltb-true, not-false}
+use borrow.Author.Tests.{ltb-true, lt-ltb, not-false}
 use lib.IntN.{ℤ}
 use lib.ListN.{length}
+use Rattle.laws.specs.Every.{all-at, all-by, Each}
 use Rattle.common.specs.Answers.{refused, accepted, Outcome, refusing}
 use Rattle.common.specs.ByteLaws.{Bytes}
 use Rattle.common.specs.Limits.{width}
@@ -17,7 +18,7 @@ use Rattle.reader.specs.File.{Module, moduleOf, channelCount, songLength}
 use Rattle.reader.specs.Judge.{verdict}
 use Rattle.common.specs.AnswerLaws.{refusing-has, refused-keeps}
 use Rattle.reader.specs.Layouts.{LegalLayout, module-legal}
-use Rattle.sequencer.specs.LegalFacts.{LegalSong}
+use Rattle.sequencer.specs.LegalFacts.{LegalSong, song-has, song-by}
 use Rattle.reader.specs.declared.Layout.{Layout}
 use Rattle.sequencer.specs.declared.Song.{Song}
 use Rattle.sequencer.specs.Songs.{tickOf}
@@ -69,7 +70,7 @@ module _ (bytes : List ℕ) (e : verdict (moduleOf bytes) .number ≡ 0) (s : St
   play-accepted n out = rw (e, l)
 
   -- and a touch is decided by its own lines
-  pub touch-judged : (page made position : ℕ) → touchOf bytes s page made position ≡ refusing (λ number place. reply (refused number place) s) (reply (accepted 0) (withSong s (touchedAt (s .song) position))) (touchLines (moduleOf bytes) (s .song .desk) page made position)
+  pub touch-judged : (page made position : ℕ) → touchOf bytes s page made position ≡ refusing (λ number place. reply (refused number place) s) (reply (accepted 0) (withSong s (touchedAt (s .song) position))) (touchLines (songLength (moduleOf bytes)) (s .song .desk) page made position)
   unfolding touchOf refusing
   touch-judged page made position = rw (e, l)
 
@@ -130,6 +131,18 @@ touched-below s position remainder h = h
 page-below : (s : Song) (remainder : ℕ) → remainder < s .time .tempo → remainder < pageChanged s .time .tempo
 unfolding pageChanged
 page-below s remainder h = h
+
+-- a touch keeps a state legal, however many voices it has
+pub touched-keeps : (bytes : List ℕ) (s : State) → legalState (moduleOf bytes) s ≡ true → (page made position : ℕ) → legalState (moduleOf bytes) (touchOf bytes s page made position .state) ≡ true
+unfolding touchOf legalState Each
+touched-keeps bytes s l page made position =
+    let m = moduleOf bytes in
+    let y = module-legal bytes .channels in
+    let h = all-at _ l in
+    refusing-has (λ (r : Reply). legalState m (r .state) ≡ true) _ _ _ (λ number place. l)
+    (λ p.
+    all-by _
+    (song-by (songLength m) (m .layout) y _ (touched-legal (songLength m) (m .layout) (s .song) position (song-has (songLength m) (m .layout) y (s .song) (h 0)) (ltb-true position (songLength m) (not-false _ (p 4)))), (h 1, (lt-ltb _ _ (touched-below (s .song) position (s .remainder) (ltb-true _ _ (h 2))), tt))))
 
 -- ---- every call
 module _ (bytes : List ℕ) (e : verdict (moduleOf bytes) .number ≡ 0) (b : Bytes bytes) (s : State) (long : length (s .voices) ≡ width) (l : legalState (moduleOf bytes) s ≡ true) where

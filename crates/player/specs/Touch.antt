@@ -5,7 +5,7 @@ use mathlib.Core.Bool.{not}
 use mathlib.Core.List.{List, [], _∷_}
 use lib.Dec.{ltb, eqb}
 use Rattle.common.specs.Answers.{refused, accepted, Line, line, refusing}
-use Rattle.reader.specs.File.{Module, moduleOf, songLength}
+use Rattle.reader.specs.File.{moduleOf, songLength}
 use Rattle.sequencer.specs.declared.Desk.{Desk}
 use Rattle.sequencer.specs.declared.Song.{Song}
 use Rattle.sequencer.specs.Songs.{courseFrom, timeAt}
@@ -43,14 +43,14 @@ unfoldable pub touchedAt : Song → ℕ → Song
 touchedAt s position = record { course = courseFrom position; time = timeAt (s .time) 0 0; desk = s .desk; channels = s .channels }
 
 -- from another page; too old; a position at or past song length
-abbrev pub touchLines : Module → Desk → ℕ → ℕ → ℕ → List Line
-touchLines m d page made position =
+abbrev pub touchLines : ℕ → Desk → ℕ → ℕ → ℕ → List Line
+touchLines positions d page made position =
     line 16 (not (eqb page (d .page))) 0
     ∷ line 17 (ltb oldest (ageOf (d .clock) made)) 0
-    ∷ line 18 (not (ltb position (songLength m))) 0
+    ∷ line 18 (not (ltb position positions)) 0
     ∷ []
 
 unfoldable pub touchOf : List ℕ → State → ℕ → ℕ → ℕ → Reply
 touchOf bytes s page made position =
     refusing (λ number place. reply (refused number place) s) (reply (accepted 0) (withSong s (touchedAt (s .song) position)))
-    (stateLines (moduleOf bytes) s (touchLines (moduleOf bytes) (s .song .desk) page made position))
+    (stateLines (moduleOf bytes) s (touchLines (songLength (moduleOf bytes)) (s .song .desk) page made position))

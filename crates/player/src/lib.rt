@@ -1,9 +1,10 @@
 // The player: states, play, touches and page changes. Every call judges the module again, and answers any state.
 ghost use mathlib.Core.Path.{_≡_};
-ghost use Rattle.common.specs.Answers.{refused, outcome};
+ghost use Rattle.common.specs.Answers.{refused, accepted, outcome};
 ghost use Rattle.player.specs.State.{freshState, reply};
 ghost use Rattle.player.specs.Play.{playOf};
-ghost use Rattle.player.specs.Touch.{changePageOf, ageOf, touchOf};
+ghost use Rattle.player.specs.Touch.{changePageOf, touchOf};
+ghost use Rattle.player.specs.Burst.{burstOf};
 ghost use Rattle.player.specs.Quiet.{whyQuietOf};
 use common::Answer;
 use common::limits::WIDTH;
@@ -15,6 +16,7 @@ pub mod legality;
 mod moves;
 pub mod playing;
 mod quiet;
+mod touching;
 
 // A state: the song, its voices and the remainder of the tick before. Any numbers may stand in it.
 pub struct State {
@@ -35,14 +37,20 @@ pub enum Why {
     Because(Cause),
 }
 
-// The oldest age at which a touch still counts, in ticks.
-const OLDEST: u32 = 25;
-
 pub fn refuse(number: u32, place: usize, state: State) -> Reply
     ensures { λ r. ⌜ r ≡ reply (refused number place) state ⌝ }
 {
     Reply {
         answer: common::refuse(number, place),
+        state: state,
+    }
+}
+
+fn accept(count: usize, state: State) -> Reply
+    ensures { λ r. ⌜ r ≡ reply (accepted count) state ⌝ }
+{
+    Reply {
+        answer: common::accept(count),
         state: state,
     }
 }
@@ -87,12 +95,6 @@ pub fn change_page(file: &[u8], state: State) -> Reply
     moves::turn_page(state)
 }
 
-fn age(clock: u32, made: u32) -> u32
-    ensures { λ r. ⌜ r ≡ ageOf clock made ⌝ }
-{
-    std::num::wrapping_sub_u32(clock, made)
-}
-
 // A touch: made on a page, at a clock, for a position of the song.
 pub fn touch(file: &[u8], state: State, page: u32, made: u32, position: u32) -> Reply
     ensures { λ r. ⌜ r ≡ touchOf (now (file .entry)) state page made position ⌝ }
@@ -103,16 +105,29 @@ pub fn touch(file: &[u8], state: State, page: u32, made: u32, position: u32) -> 
     if number != 0 {
         return refuse(number, judged.place, state);
     }
-    if page != state.song.desk.page {
-        return refuse(16, 0, state);
+    let positions = reader::song::song_length(layout, file);
+    touching::touch_from(positions, state, page, made, position)
+}
+
+// A burst of touches, each made on a page, at a clock, for a position; an answer for each, and the rest of answers stays.
+pub fn touch_burst(
+    file: &[u8],
+    state: State,
+    pages: &[u32],
+    mades: &[u32],
+    positions: &[u32],
+    answers: &mut [u32],
+) -> Reply
+    ensures { λ r. ⌜ outcome r (now (answers .exit)) ≡ burstOf (now (file .entry)) state (record { pages = now (pages .entry); mades = now (mades .entry); positions = now (positions .entry) }) (now (answers .entry)) ⌝ }
+{
+    let layout = reader::offsets::four_channels();
+    let judged = legality::judge_state(layout, file, state);
+    let number = judged.number;
+    if number != 0 {
+        return refuse(number, judged.place, state);
     }
-    if age(state.song.desk.clock, made) > OLDEST {
-        return refuse(17, 0, state);
-    }
-    if position >= reader::song::song_length(layout, file) {
-        return refuse(18, 0, state);
-    }
-    moves::go_to(state, position)
+    let last = reader::song::song_length(layout, file);
+    touching::burst_from(last, state, pages, mades, positions, answers)
 }
 
 // Why a channel, from 1, is quiet in the next frame.
