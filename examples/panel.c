@@ -1,6 +1,6 @@
 /* panel MODULE OUT RECORD: a panel's firmware in small. A sound driver asks for blocks of 512 frames; the panel plays the module one tick
-   a call to fill them, and between two ticks answers touches and page changes. What the person at the panel does comes from the table
-   below. The frames go to OUT as 16-bit numbers, and RECORD says what was done and answered, as a trial record (docs/FORMATS.md) that
+   a call to fill them. Between two ticks it hands over the touches that arrived, as one burst, and changes pages. What the person at the
+   panel does comes from the table below. The frames go to OUT as 16-bit numbers, and RECORD says what was done and answered, as a trial record (docs/FORMATS.md) that
    `lampthistle replay MODULE RECORD --check` plays again. It ends with 1 where the module is refused, and with 2 where a file cannot be
    read or written. */
 #include "files.h"
@@ -20,7 +20,8 @@ typedef struct event {
 } event;
 
 static const event EVENTS[] = {
-    {47, 0, 3, 1},   /* a touch */
+    {46, 0, 4, 2},   /* two touches that arrive together: the song goes where the later one says */
+    {47, 0, 3, 1},
     {91, 0, 10, 2},  /* a touch that arrives after the page was turned */
     {100, 1, 0, 0},  /* the next page */
     {120, 0, 0, 9},  /* a position that the song does not have */
@@ -29,11 +30,18 @@ static const event EVENTS[] = {
 };
 enum { EVENT_COUNT = sizeof EVENTS / sizeof EVENTS[0] };
 
+/* Touches in the order in which they arrived. */
+typedef struct burst {
+    uint32_t pages[LAMPTHISTLE_MOST_TOUCHES], mades[LAMPTHISTLE_MOST_TOUCHES], positions[LAMPTHISTLE_MOST_TOUCHES];
+    size_t touches;
+} burst;
+
 typedef struct panel {
     uint8_t *module;
     size_t length;
     lampthistle_state state;
     uint32_t shown[EVENT_COUNT]; /* the page that was shown when each touch was made */
+    burst arrived;               /* since the last tick */
     int16_t tick[LAMPTHISTLE_TICK_NUMBERS];
     size_t taken, filled; /* numbers of `tick` that the driver has, and that there are */
     uint32_t ticks;       /* played since the record's last line */
@@ -65,10 +73,13 @@ static void add_frames(panel *p) {
     }
 }
 
-/* A call's results: its answer, the clock after it, and the sum so far. */
-static void write_results(panel *p, const uint64_t *answer) {
-    fprintf(p->record, " = %" PRIu64 " %" PRIu64 " %" PRIu64 " %" PRIu32 " %016" PRIx64 "\n", answer[LAMPTHISTLE_NUMBER],
-            answer[LAMPTHISTLE_PLACE], answer[LAMPTHISTLE_COUNT], p->state.cell[LAMPTHISTLE_CLOCK], p->sum);
+/* A call's results: its answer, and of a burst each touch's; the clock after it, and the sum so far. */
+static void write_results(panel *p, const uint64_t *answer, const uint32_t *answers) {
+    uint64_t k;
+    fprintf(p->record, " = %" PRIu64 " %" PRIu64 " %" PRIu64, answer[LAMPTHISTLE_NUMBER], answer[LAMPTHISTLE_PLACE],
+            answer[LAMPTHISTLE_COUNT]);
+    for (k = 0; answers && k < answer[LAMPTHISTLE_COUNT]; k++) fprintf(p->record, " %" PRIu32, answers[k]);
+    fprintf(p->record, " %" PRIu32 " %016" PRIx64 "\n", p->state.cell[LAMPTHISTLE_CLOCK], p->sum);
 }
 
 /* The ticks since the last line, as one call. */
@@ -76,26 +87,45 @@ static void write_ticks(panel *p) {
     const uint64_t answer[LAMPTHISTLE_ANSWER_CELLS] = {LAMPTHISTLE_ACCEPTED, 0, p->ticks};
     if (p->ticks == 0) return;
     fprintf(p->record, "play %" PRIu32, p->ticks);
-    write_results(p, answer);
+    write_results(p, answer, NULL);
     p->ticks = 0;
 }
 
 /* ---- the panel */
+/* Hands over the touches that arrived. A refused touch changes nothing, and needs no care. */
+static void hand_over(panel *p) {
+    uint64_t answer[LAMPTHISTLE_ANSWER_CELLS];
+    uint32_t answers[LAMPTHISTLE_MOST_TOUCHES];
+    burst *b = &p->arrived;
+    size_t k;
+    if (b->touches == 0) return;
+    write_ticks(p);
+    lampthistle_touch_burst(p->module, p->length, p->state.cell, b->pages, b->touches, b->mades, b->touches, b->positions, b->touches,
+                            answers, LAMPTHISTLE_MOST_TOUCHES, answer);
+    fprintf(p->record, "burst");
+    for (k = 0; k < b->touches; k++) fprintf(p->record, " %" PRIu32 " %" PRIu32 " %" PRIu32, b->pages[k], b->mades[k], b->positions[k]);
+    write_results(p, answer, answers);
+    b->touches = 0;
+}
+
+/* A touch arrives. Where a burst is full it is handed over first. */
+static void touch(panel *p, uint32_t page, uint32_t made, uint32_t position) {
+    burst *b = &p->arrived;
+    if (b->touches == LAMPTHISTLE_MOST_TOUCHES) hand_over(p);
+    b->pages[b->touches] = page;
+    b->mades[b->touches] = made;
+    b->positions[b->touches] = position;
+    b->touches++;
+}
+
+/* Touches that arrived before it still belong to the old page. */
 static void turn_page(panel *p) {
     uint64_t answer[LAMPTHISTLE_ANSWER_CELLS];
+    hand_over(p);
     write_ticks(p);
     lampthistle_change_page(p->module, p->length, p->state.cell, answer);
     fprintf(p->record, "page");
-    write_results(p, answer);
-}
-
-/* A refused touch changes nothing, and needs no care. */
-static void touch(panel *p, uint32_t page, uint32_t made, uint32_t position) {
-    uint64_t answer[LAMPTHISTLE_ANSWER_CELLS];
-    write_ticks(p);
-    lampthistle_touch(p->module, p->length, p->state.cell, page, made, position, answer);
-    fprintf(p->record, "touch %" PRIu32 " %" PRIu32 " %" PRIu32, page, made, position);
-    write_results(p, answer);
+    write_results(p, answer, NULL);
 }
 
 /* Takes what is done at this clock. Clocks wrap at 2^32: an age, clock minus made modulo 2^32, says how long ago something was; a
@@ -130,6 +160,7 @@ static int pull(panel *p, int16_t *block, size_t numbers) {
         size_t part = p->filled - p->taken;
         if (part == 0) {
             take_events(p);
+            hand_over(p);
             if (!play_tick(p)) return 0;
             continue;
         }

@@ -2,13 +2,13 @@
 
    ANSWERS
    A call answers a number, a place and a count. Number 0 is accepted; another number is a refusal, and the place says where, 0 where
-   none is named. The count is ticks played (play, play_stream), bytes written (translate) or a cause's number (why_quiet); 0 for the
-   other calls and for every refusal. All three cells are written by every call that takes them. lampthistle_refusal_text says a number in words.
+   none is named. The count is ticks played (play, play_stream), touches answered (touch_burst), bytes written (translate) or a cause's
+   number (why_quiet); 0 for the other calls and for every refusal. All three cells are written by every call that takes them. lampthistle_refusal_text says a number in words.
 
    WHAT A CALLER OWES
    Every pointer is aligned for its type and good for its length for the whole call, and none that is written overlaps another. A
-   length counts elements: bytes of a file, stream or room, 16-bit numbers of a sound buffer. A pointer that comes with a length may be
-   null where the length is 0; a state and an answer may not. Nothing else is asked: any bytes and any numbers may be passed.
+   length counts elements: bytes of a file, stream or room, 16-bit numbers of a sound buffer, numbers of a list. A pointer that comes
+   with a length may be null where the length is 0; a state and an answer may not. Nothing else is asked: any bytes and any numbers may be passed.
 
    WHAT A CALLER GETS
    Every call returns, on any input. A refused call writes the answer and nothing else: the state and every lent buffer stay. An
@@ -39,7 +39,7 @@
    TOUCHES
    A touch carries the page on which it was made, the state's clock when it was made, and the song position that it asks for. It is
    refused if it comes from another page, is older than 25 ticks or names a position past the song's end. A page change shuts out every
-   touch made before it.
+   touch made before it. What arrived between two ticks can be handed over as one burst, with an answer for each touch.
 
    QUIET CHANNELS
    Asked why a channel is quiet, the library names the first true cause for the next frame, from the voice as the state has it: the next
@@ -76,6 +76,8 @@ extern "C" {
 #define LAMPTHISTLE_TICK_NUMBERS 7500
 /* The most ticks that one translation takes. */
 #define LAMPTHISTLE_MOST_TICKS 65535
+/* The most touches that one burst takes. */
+#define LAMPTHISTLE_MOST_TOUCHES 64
 /* The most stack that one call takes. */
 #define LAMPTHISTLE_STACK_BYTES 8192
 
@@ -115,7 +117,11 @@ enum lampthistle_refusal {
     LAMPTHISTLE_REFUSED_STREAM_VERSION = 22, /* 4 */
     LAMPTHISTLE_REFUSED_RECORD = 23,         /* that record, or the first byte left */
     /* of a question why a channel is quiet */
-    LAMPTHISTLE_REFUSED_CHANNEL = 25 /* 0 */
+    LAMPTHISTLE_REFUSED_CHANNEL = 25, /* 0 */
+    /* of a burst of touches, by its lists */
+    LAMPTHISTLE_REFUSED_TOUCHES = 26, /* 0 */
+    LAMPTHISTLE_REFUSED_ANSWERS = 27, /* 0 */
+    LAMPTHISTLE_REFUSED_LISTS = 34    /* 0 */
 };
 
 /* What an answer's number means, for a person. */
@@ -142,6 +148,9 @@ static inline const char *lampthistle_refusal_text(uint64_t number) {
     case LAMPTHISTLE_REFUSED_STREAM_VERSION: return "the stream's version is neither 1 nor 2";
     case LAMPTHISTLE_REFUSED_RECORD: return "a record of the stream is bad, or bytes are left over";
     case LAMPTHISTLE_REFUSED_CHANNEL: return "the channel is not 1 to 4";
+    case LAMPTHISTLE_REFUSED_TOUCHES: return "a touch list is longer than 64";
+    case LAMPTHISTLE_REFUSED_ANSWERS: return "the answer list is shorter than the longest touch list";
+    case LAMPTHISTLE_REFUSED_LISTS: return "the touch lists are not equally long";
     default: return "an unknown refusal";
     }
 }
@@ -237,6 +246,14 @@ void lampthistle_play(const uint8_t *file, size_t file_len, uint32_t state[LAMPT
    14, 16 to 18. */
 void lampthistle_touch(const uint8_t *file, size_t file_len, uint32_t state[LAMPTHISTLE_STATE_CELLS],
                        uint32_t page, uint32_t made, uint32_t position, uint64_t answer[LAMPTHISTLE_ANSWER_CELLS]);
+
+/* Takes up to LAMPTHISTLE_MOST_TOUCHES touches in their order: touch k was made on pages[k] at clock mades[k] for positions[k]. State and
+   answers are those of single touches: answers[k] is 0, or the refusal 16, 17 or 18 of touch k alone. Counts the touches, answered by
+   0 or not; no touch at all is accepted, too. Answers past the touches stay. Refusals 1 to 9, 14, 26, 27, 34. */
+void lampthistle_touch_burst(const uint8_t *file, size_t file_len, uint32_t state[LAMPTHISTLE_STATE_CELLS],
+                             const uint32_t *pages, size_t pages_len, const uint32_t *mades, size_t mades_len,
+                             const uint32_t *positions, size_t positions_len, uint32_t *answers, size_t answers_len,
+                             uint64_t answer[LAMPTHISTLE_ANSWER_CELLS]);
 
 /* Adds 1 to the page, modulo 2^32. Refusals 1 to 9, 14. */
 void lampthistle_change_page(const uint8_t *file, size_t file_len, uint32_t state[LAMPTHISTLE_STATE_CELLS],

@@ -7,7 +7,7 @@
 #include <stdlib.h>
 #include <string.h>
 
-enum { GUARD = 32, PATTERN = 0x5A, KINDS = 26 };
+enum { GUARD = 32, PATTERN = 0x5A, KINDS = 35 };
 
 typedef struct block {
     uint8_t *at;
@@ -92,6 +92,40 @@ static void buffers(const input *in, int k, size_t numbers, size_t guard) {
     free(out.at), free(board.at), free(room.at);
 }
 
+/* A list of numbers, of which each is n, in a block with guard cells. */
+static block new_list(size_t numbers, size_t guard, uint32_t n) {
+    block list = new_block(numbers * sizeof n + 2 * guard);
+    uint32_t *at = (uint32_t *)(void *)within(list, guard);
+    for (size_t i = 0; i < numbers; i++) at[i] = n;
+    return list;
+}
+
+/* n, one more, one less if there is one, or none. */
+static size_t about(size_t n, int which) {
+    return which == 0 ? n : which == 1 ? n + 1 : which == 2 && n > 0 ? n - 1 : 0;
+}
+
+/* A burst of so many touches, of which one list and the answers are as long, longer or shorter. */
+static void burst(const input *in, int k, size_t touches, size_t guard) {
+    uint64_t answer[LAMPTHISTLE_ANSWER_CELLS];
+    uint32_t state[LAMPTHISTLE_STATE_CELLS];
+    size_t made = about(touches, k / 24 % 3), room = about(touches, k / 6 % 4);
+    block pages, mades, positions, answers;
+    memcpy(state, in->state.at, sizeof state);
+    pages = new_list(touches, guard, state[LAMPTHISTLE_PAGE]);
+    mades = new_list(made, guard, state[LAMPTHISTLE_CLOCK]);
+    positions = new_list(touches, guard, (uint32_t)k % 2);
+    answers = new_block(room * sizeof(uint32_t) + 2 * guard);
+
+    lampthistle_touch_burst(in->module.at, in->module.bytes, state, (uint32_t *)(void *)within(pages, guard), touches,
+                            (uint32_t *)(void *)within(mades, guard), made, (uint32_t *)(void *)within(positions, guard), touches,
+                            (uint32_t *)(void *)within(answers, guard), room, answer);
+    count(answer, k);
+    check(kept(answers, guard, answer[LAMPTHISTLE_COUNT] * sizeof(uint32_t)), "touch_burst wrote outside", k);
+    check(answer[LAMPTHISTLE_NUMBER] == 0 || memcmp(state, in->state.at, sizeof state) == 0, "a refused burst changed the state", k);
+    free(pages.at), free(mades.at), free(positions.at), free(answers.at);
+}
+
 /* The calls that are given a state, which is a block of its own. */
 static void states(const input *in, int k) {
     uint64_t answer[LAMPTHISTLE_ANSWER_CELLS];
@@ -125,14 +159,16 @@ static uint32_t sum(block b) {
 }
 
 int main(int words, char **word) {
-    static const size_t LENGTHS[] = {0, 1, 939, 1920, 3001, 7500};
+    static const size_t LENGTHS[] = {0, 1, 939, 1920, 3001, 7500}, TOUCHES[] = {0, 1, 2, 63, 64, 65};
     int k = 0;
     input in;
     if (words != 2) return fprintf(stderr, "usage: robust FOLDER\n"), 2;
     for (; load(word[1], k, "mod", &in.module) && load(word[1], k, "state", &in.state) && load(word[1], k, "stream", &in.stream); k++) {
         uint32_t before = sum(in.module) ^ sum(in.stream) ^ sum(in.state);
-        size_t numbers = LENGTHS[k % (sizeof LENGTHS / sizeof LENGTHS[0])];
+        size_t numbers = LENGTHS[k % (sizeof LENGTHS / sizeof LENGTHS[0])], touches = TOUCHES[k % (sizeof TOUCHES / sizeof TOUCHES[0])];
         states(&in, k);
+        burst(&in, k, touches, 0);
+        burst(&in, k, touches, GUARD);
         buffers(&in, k, numbers, 0);
         buffers(&in, k, numbers, GUARD);
         check(before == (sum(in.module) ^ sum(in.stream) ^ sum(in.state)), "an input was changed", k);

@@ -9,11 +9,13 @@
 #include <string.h>
 
 enum { STACK = 1 << 20, PATTERN = 0xA5, MODULE = 1 << 20, TICKS = 1500, NUMBERS = 1 << 22, ROOM = 1 << 20 };
+enum { TOUCHES = LAMPTHISTLE_MOST_TOUCHES };
 
 static uint8_t stack[STACK] __attribute__((aligned(4096)));
 static uint8_t module[MODULE], room[ROOM];
 static size_t module_length, stream_length;
 static int16_t out[NUMBERS];
+static uint32_t zeros[TOUCHES], clocks[TOUCHES], answers[TOUCHES];
 static lampthistle_state state;
 static uint64_t answer[LAMPTHISTLE_ANSWER_CELLS];
 
@@ -38,6 +40,13 @@ static void *play(void *none) {
 
 static void *touch(void *none) {
     lampthistle_touch(module, module_length, state.cell, 0, state.cell[LAMPTHISTLE_CLOCK], 0, answer);
+    return none;
+}
+
+static void *touch_burst(void *none) {
+    size_t k;
+    for (k = 0; k < TOUCHES; k++) clocks[k] = state.cell[LAMPTHISTLE_CLOCK];
+    lampthistle_touch_burst(module, module_length, state.cell, zeros, TOUCHES, clocks, TOUCHES, zeros, TOUCHES, answers, TOUCHES, answer);
     return none;
 }
 
@@ -88,7 +97,7 @@ static size_t measure_all(void) {
         const char *name;
         void *(*call)(void *);
     } CALLS[] = {{"fresh", fresh}, {"judge", judge}, {"play", play}, {"why_quiet", why_quiet}, {"touch", touch},
-                 {"change_page", change_page}, {"translate", translate}, {"play_stream", play_stream}};
+                 {"touch_burst", touch_burst}, {"change_page", change_page}, {"translate", translate}, {"play_stream", play_stream}};
     size_t most = 0, bytes, k;
     for (k = 0; k < sizeof CALLS / sizeof CALLS[0]; k++) {
         bytes = measure(CALLS[k].name, CALLS[k].call);

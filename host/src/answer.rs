@@ -3,7 +3,7 @@ use crate::refusal;
 use std::{error, fmt};
 
 /// What a call answers. Number 0 is accepted; another number is a refusal, with its place. The count is what the call counts: ticks
-/// played, bytes written, or a cause's number; 0 for the others and for every refusal.
+/// played, touches answered, bytes written, or a cause's number; 0 for the others and for every refusal.
 #[must_use = "a refused call did nothing"]
 #[derive(Clone, Copy, Debug, PartialEq, Eq)]
 pub struct Answer {
@@ -112,6 +112,9 @@ fn meaning(number: u64) -> &'static str {
         refusal::STREAM_VERSION => "the stream's version is neither 1 nor 2",
         refusal::RECORD => "a record of the stream is bad, or bytes are left over",
         refusal::CHANNEL => "the channel is not 1 to 4",
+        refusal::TOUCHES => "a touch list is longer than 64",
+        refusal::ANSWERS => "the answer list is shorter than the longest touch list",
+        refusal::LISTS => "the touch lists are not equally long",
         _ => "an unknown refusal",
     }
 }

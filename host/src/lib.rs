@@ -31,8 +31,8 @@ mod version;
 
 pub use answer::{Answer, Refusal};
 pub use play::{
-    change_page, fresh, play, tick_frames, tick_numbers, tick_rest, touch, State, CHANNELS, RATE,
-    STATE_CELLS, TICK_NUMBERS,
+    change_page, fresh, play, tick_frames, tick_numbers, tick_rest, touch, touch_burst, State,
+    CHANNELS, MOST_TOUCHES, RATE, STATE_CELLS, TICK_NUMBERS,
 };
 pub use quiet::{why_quiet, Cause};
 pub use stream::{play_stream, translate, MOST_TICKS};

@@ -119,6 +119,40 @@ pub fn touch(file: &[u8], state: &mut State, page: u32, made: u32, position: u32
     Answer::from_cells(answer)
 }
 
+/// The most touches that one burst takes.
+pub const MOST_TOUCHES: usize = 64;
+
+/// Takes up to MOST_TOUCHES touches in their order, touch k made on `pages[k]` at clock `mades[k]` for `positions[k]`, and counts them. State
+/// and answers are those of single touches: `answers[k]` is 0, or the refusal's number of touch k alone. Answers past the touches stay.
+pub fn touch_burst(
+    file: &[u8],
+    state: &mut State,
+    pages: &[u32],
+    mades: &[u32],
+    positions: &[u32],
+    answers: &mut [u32],
+) -> Answer {
+    let mut answer = [0; 3];
+    // SAFETY: the pointers are good for their lengths, and the exclusive borrows keep state and answers apart from the others.
+    unsafe {
+        sys::lampthistle_touch_burst(
+            file.as_ptr(),
+            file.len(),
+            &mut state.0,
+            pages.as_ptr(),
+            pages.len(),
+            mades.as_ptr(),
+            mades.len(),
+            positions.as_ptr(),
+            positions.len(),
+            answers.as_mut_ptr(),
+            answers.len(),
+            &mut answer,
+        )
+    };
+    Answer::from_cells(answer)
+}
+
 /// Goes to the next page: touches made on the page before are refused from now on.
 pub fn change_page(file: &[u8], state: &mut State) -> Answer {
     let mut answer = [0; 3];

@@ -26,6 +26,20 @@ extern "C" {
         position: u32,
         answer: *mut Answer,
     );
+    pub fn lampthistle_touch_burst(
+        file: *const u8,
+        file_len: usize,
+        state: *mut State,
+        pages: *const u32,
+        pages_len: usize,
+        mades: *const u32,
+        mades_len: usize,
+        positions: *const u32,
+        positions_len: usize,
+        answers: *mut u32,
+        answers_len: usize,
+        answer: *mut Answer,
+    );
     pub fn lampthistle_change_page(
         file: *const u8,
         file_len: usize,

@@ -1,7 +1,7 @@
 //! The safe wrappers, on modules small enough to know every answer.
 use lampthistle::{
     cell, change_page, fresh, judge, play, play_stream, tick_frames, tick_numbers, tick_rest,
-    touch, translate, why_quiet, Answer, Cause, Refusal,
+    touch, touch_burst, translate, why_quiet, Answer, Cause, Refusal,
 };
 
 /// One empty pattern and no samples: 2,108 bytes.
@@ -65,6 +65,56 @@ fn touches_and_pages_are_answered() {
     assert_eq!(state, before);
     state.0[cell::ROW] = 64;
     assert_eq!(play(&file, &mut state, 0, &mut []), refused(14, 0));
+}
+
+#[test]
+fn a_burst_is_single_touches_in_their_order() {
+    let mut file = empty();
+    file[950] = 3;
+    let mut state = fresh();
+    (state.0[cell::ROW], state.0[cell::PAGE]) = (9, 1);
+    let (pages, mades) = ([1, 0, 1, 1, 1], [0, 0, 1, 0, 0]);
+    let (positions, mut answers) = ([2, 0, 0, 3, 1], [9; 6]);
+    let mut single = state;
+    let answer = touch_burst(&file, &mut state, &pages, &mades, &positions, &mut answers);
+    assert_eq!((answer, answers), (accepted(5), [0, 16, 17, 18, 0, 9]));
+    for k in 0..5 {
+        let answer = touch(&file, &mut single, pages[k], mades[k], positions[k]);
+        assert_eq!(answer.number, u64::from(answers[k]));
+    }
+    assert_eq!(state, single);
+    assert_eq!((state.position(), state.row()), (1, 0));
+}
+
+#[test]
+fn a_burst_is_refused_by_its_lists() {
+    let (file, zeros) = (empty(), [0; 66]);
+    for (lengths, room, answer) in [
+        ([0, 0, 0], 0, accepted(0)),
+        ([0, 0, 0], 3, accepted(0)),
+        ([64, 64, 64], 64, accepted(64)),
+        ([65, 65, 65], 65, refused(26, 0)),
+        ([0, 0, 65], 0, refused(26, 0)),
+        ([64, 64, 64], 63, refused(27, 0)),
+        ([1, 2, 1], 1, refused(27, 0)),
+        ([1, 2, 2], 2, refused(34, 0)),
+        ([2, 2, 0], 9, refused(34, 0)),
+    ] {
+        let [pages, mades, positions] = lengths.map(|length| &zeros[..length]);
+        let mut state = fresh();
+        state.0[cell::ROW] = 9;
+        let before = state;
+        let mut answers = vec![9; room];
+        let given = touch_burst(&file, &mut state, pages, mades, positions, &mut answers);
+        assert_eq!(given, answer, "{lengths:?}");
+        if given.count == 0 {
+            assert_eq!((state, answers), (before, vec![9; room]), "{lengths:?}");
+        }
+    }
+    let mut state = fresh();
+    state.0[cell::ROW] = 64;
+    let answer = touch_burst(&file, &mut state, &zeros, &[], &[], &mut []);
+    assert_eq!(answer, refused(14, 0));
 }
 
 #[test]

@@ -33,6 +33,8 @@ fn objects() -> String {
     const EFFECTS: &str = "crates/play_cases/data/effects";
     const SCRIPT: &str = "examples/trial.txt";
     let (record, sound) = (own("objects.record"), own("objects.raw"));
+    let asked = own("objects.txt");
+    std::fs::write(&asked, "why\n").unwrap();
     printed(&["replay", FLOW, SCRIPT, "--record", &record]);
     std::fs::write(&sound, [1; 4_000]).unwrap();
     let mut objects = String::new();
@@ -46,6 +48,7 @@ fn objects() -> String {
         &["trace", "--json", FLOW],
         &["why", "--json", FLOW],
         &["replay", "--json", FLOW, SCRIPT],
+        &["replay", "--json", FLOW, &asked],
         &["replay", "--json", "--check", EFFECTS, &record],
         &["compare", "--json", FLOW, &sound],
     ] {
@@ -59,7 +62,15 @@ fn formats_has_every_key_of_an_object() {
     let formats = std::fs::read_to_string(root().join("docs/FORMATS.md")).unwrap();
     let (_, section) = formats.split_once("\n## Objects\n").unwrap();
     let keys = keys(&objects());
-    for known in ["period", "effect", "comes_back_to", "difference", "side"] {
+    for known in [
+        "period",
+        "effect",
+        "comes_back_to",
+        "difference",
+        "side",
+        "answers",
+        "causes",
+    ] {
         assert!(keys.contains(known), "no object has {known}");
     }
     let named = |key: &&String| section.contains(&format!("`{key}`"));

@@ -75,7 +75,7 @@ fn no_chain_of_calls_takes_more_stack_than_the_header_says() {
     let all = functions();
     let exported = all.keys().filter(|name| name.starts_with("lampthistle_"));
     let depths: Vec<u64> = exported.map(|name| depth(&all, name, &[])).collect();
-    assert!(depths.len() >= 9, "{} calls", depths.len());
+    assert!(depths.len() >= 10, "{} calls", depths.len());
     let most = *depths.iter().max().unwrap();
     // A bound far below the frames of the code would mean that they were not read.
     assert!((1_000..=allowed).contains(&most), "{most} bytes");

@@ -35,9 +35,13 @@ pub fn check_terminal(out: &OsStr) -> Result<(), Stop> {
     Ok(())
 }
 
-/// A count with its unit: 1 tick, 2 ticks.
+/// A count with its unit: 1 tick, 2 ticks, 2 touches.
 pub fn counted(count: u64, unit: &str) -> String {
-    let many = if count == 1 { "" } else { "s" };
+    let many = match count {
+        1 => "",
+        _ if unit.ends_with("ch") => "es",
+        _ => "s",
+    };
     format!("{count} {unit}{many}")
 }
 

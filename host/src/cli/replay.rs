@@ -9,7 +9,7 @@ use super::stop::Stop;
 use super::trial::Trial;
 use super::words::Words;
 use super::{why, Command};
-use lampthistle::{Cause, State, TICK_NUMBERS};
+use lampthistle::{Answer, Cause, State, TICK_NUMBERS};
 
 pub const COMMAND: Command = Command {
     name: "replay",
@@ -21,6 +21,8 @@ lampthistle replay FILE SCRIPT [--out OUT] [--record RECORD | --check] [--plain 
 Runs a trial again, from a fresh state. A line of SCRIPT is one call:
   play N                     plays N ticks
   touch PAGE MADE POSITION   a touch made on PAGE at clock MADE for a song position
+  burst PAGE MADE POSITION [PAGE MADE POSITION ..]
+                             touches that are handed over at once, 64 at most
   page                       a page change
   why                        why each channel is quiet, as why says it
 # begins a comment. Prints each call's answer, and the clock, page and place after it; the frames go to OUT, as in play. A refused touch
@@ -28,8 +30,8 @@ changes nothing, and the trial goes on: a trial that ran ends with 0.
 --record writes the script again to RECORD, with the module's checksum, and for each call its answer, the clock and a checksum of the
 frames so far (docs/FORMATS.md). A record is a script, too.
 --check plays a record, and says that every answer and checksum came again, or which line differs first and how.
---plain prints NUMBER PLACE COUNT CLOCK PAGE POSITION ROW TICK a call, and after them, of why, each channel's cause; with --check NUMBER
-PLACE COUNT, the count in calls. --json prints an object a call; with --check one.
+--plain prints NUMBER PLACE COUNT CLOCK PAGE POSITION ROW TICK a call, and after them each touch's answer, of burst, or each channel's
+cause, of why; with --check NUMBER PLACE COUNT, the count in calls. --json prints an object a call; with --check one.
 
 Examples:
   lampthistle replay song.mod trial.txt --record trial.record
@@ -209,12 +211,17 @@ fn told(words: &Words, file: &str, call: &Call, results: &Results, state: &State
         let each: String = results.each.iter().map(|n| format!(" {n}")).collect();
         return format!("{bare} {clock} {page} {position} {row} {tick}{each}\n");
     }
-    let played = match call {
-        Call::Play(_) if answer.is_accepted() => format!(", {}", counted(answer.count, "tick")),
-        _ => String::new(),
+    let unit = match call {
+        Call::Play(_) => Some("tick"),
+        Call::Burst(_) => Some("touch"),
+        _ => None,
     };
+    let unit = unit.filter(|_| answer.is_accepted());
+    let count = unit.map_or_else(String::new, |unit| {
+        format!(", {}", counted(answer.count, unit))
+    });
     let line = format!(
-        "{call}: {answer}{played}; clock {clock}, page {page}, position {position}, row {row}, tick {tick}\n"
+        "{call}: {answer}{count}; clock {clock}, page {page}, position {position}, row {row}, tick {tick}\n"
     );
     line + &below(call, results)
 }
@@ -223,10 +230,20 @@ fn told(words: &Words, file: &str, call: &Call, results: &Results, state: &State
 fn below(call: &Call, results: &Results) -> String {
     let each = results.each.iter().enumerate();
     let lines = each.filter_map(|(k, &number)| match call {
+        Call::Burst(touches) => Some(format!("touch {}: {}", touches[k], answered(number))),
         Call::Why => Cause::of(number).map(|cause| why::said(k as u32 + 1, cause)),
         _ => None,
     });
     lines.map(|line| format!("  {line}\n")).collect()
+}
+
+/// A touch's answer in a burst.
+fn answered(number: u64) -> Answer {
+    Answer {
+        number,
+        place: 0,
+        count: 0,
+    }
 }
 
 fn fields(file: &str, call: &Call, results: &Results, state: &State) -> Fields {
@@ -241,8 +258,11 @@ fn fields(file: &str, call: &Call, results: &Results, state: &State) -> Fields {
         ("tick", state.tick().into()),
         ("sound", results.sound.to_string().into()),
     ]);
-    if let Call::Why = call {
-        fields.push(("causes", Value::list(results.each.iter().copied())));
+    let each = Value::list(results.each.iter().copied());
+    match call {
+        Call::Burst(_) => fields.push(("answers", each)),
+        Call::Why => fields.push(("causes", each)),
+        _ => {}
     }
     fields
 }

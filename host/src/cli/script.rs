@@ -8,18 +8,36 @@ use std::fmt;
 use std::str::FromStr;
 
 /// One call of a trial.
-#[derive(Clone, Copy)]
 pub enum Call {
     Play(u32),
-    Touch { page: u32, made: u32, position: u32 },
+    Touch(Touch),
+    Burst(Vec<Touch>),
     Page,
     Why,
+}
+
+#[derive(Clone, Copy)]
+pub struct Touch {
+    pub page: u32,
+    pub made: u32,
+    pub position: u32,
+}
+
+impl Touch {
+    fn of(&[page, made, position]: &[u32; 3]) -> Touch {
+        Touch {
+            page,
+            made,
+            position,
+        }
+    }
 }
 
 impl Call {
     /// What a call counts that has a number for each of them, and what that number is.
     fn each(&self) -> Option<(&'static str, &'static str)> {
         match self {
+            Call::Burst(_) => Some(("touch", "number")),
             Call::Why => Some(("channel", "cause")),
             _ => None,
         }
@@ -30,7 +48,7 @@ impl Call {
 #[derive(Clone)]
 pub struct Results {
     pub answer: Answer,
-    /// A number for each that the call counts: of `why` each channel's cause. Empty for the other calls.
+    /// A number for each that the call counts: of `burst` each touch's answer, of `why` each channel's cause. Empty for the other calls.
     pub each: Vec<u64>,
     pub clock: u32,
     pub sound: Checksum,
@@ -109,7 +127,7 @@ pub fn parse<'a>(name: &str, text: &'a str) -> Result<Script<'a>, Stop> {
 fn bad_line(name: &str, number: usize, said: &str) -> Stop {
     let said = quoted(OsStr::new(said));
     Stop::Cannot(format!(
-        "{name}:{number}: not play N, touch PAGE MADE POSITION, page or why, nor a record's header: {said}"
+        "{name}:{number}: not play N, touch PAGE MADE POSITION, burst PAGE MADE POSITION .., page or why, nor a record's header: {said}"
     ))
 }
 
@@ -139,13 +157,13 @@ fn read_call(said: &str) -> Option<Said> {
     let mut words = said.split_whitespace();
     let name = words.next()?;
     let numbers: Option<Vec<u32>> = words.map(number).collect();
-    let call = match (name, numbers?.as_slice()) {
+    let numbers = numbers?;
+    let (touches, rest) = numbers.as_chunks();
+    let mut touches = touches.iter().map(Touch::of);
+    let call = match (name, numbers.as_slice()) {
         ("play", &[ticks]) => Call::Play(ticks),
-        ("touch", &[page, made, position]) => Call::Touch {
-            page,
-            made,
-            position,
-        },
+        ("touch", [_, _, _]) => Call::Touch(touches.next()?),
+        ("burst", [_, ..]) if rest.is_empty() => Call::Burst(touches.collect()),
         ("page", []) => Call::Page,
         ("why", []) => Call::Why,
         _ => return None,
@@ -207,15 +225,21 @@ impl Line<'_> {
     }
 }
 
+impl fmt::Display for Touch {
+    fn fmt(&self, f: &mut fmt::Formatter) -> fmt::Result {
+        write!(f, "{} {} {}", self.page, self.made, self.position)
+    }
+}
+
 impl fmt::Display for Call {
     fn fmt(&self, f: &mut fmt::Formatter) -> fmt::Result {
         match self {
             Call::Play(ticks) => write!(f, "play {ticks}"),
-            Call::Touch {
-                page,
-                made,
-                position,
-            } => write!(f, "touch {page} {made} {position}"),
+            Call::Touch(touch) => write!(f, "touch {touch}"),
+            Call::Burst(touches) => {
+                f.write_str("burst")?;
+                touches.iter().try_for_each(|touch| write!(f, " {touch}"))
+            }
             Call::Page => f.write_str("page"),
             Call::Why => f.write_str("why"),
         }

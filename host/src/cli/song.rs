@@ -44,6 +44,19 @@ impl<'a> Song<'a> {
         lampthistle::touch(&self.file, &mut self.state, page, made, position)
     }
 
+    /// Pages, clocks and positions of touches, with room for as many answers.
+    pub fn touch_burst(&mut self, lists: &[Vec<u32>; 3], answers: &mut [u32]) -> Answer {
+        let [pages, mades, positions] = lists;
+        lampthistle::touch_burst(
+            &self.file,
+            &mut self.state,
+            pages,
+            mades,
+            positions,
+            answers,
+        )
+    }
+
     pub fn change_page(&mut self) -> Answer {
         lampthistle::change_page(&self.file, &mut self.state)
     }

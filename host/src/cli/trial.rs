@@ -1,7 +1,7 @@
 //! A trial that is being run: calls on one state, and what is heard of them.
 use super::checksum::Checksum;
 use super::progress::Progress;
-use super::script::{Call, Results};
+use super::script::{Call, Results, Touch};
 use super::song::Song;
 use super::sound::Sound;
 use super::stop::Stop;
@@ -50,13 +50,10 @@ impl<'a> Trial<'a> {
     /// Makes a call.
     pub fn call(&mut self, call: &Call) -> Result<Results, Stop> {
         let mut each = Vec::new();
-        let answer = match *call {
-            Call::Play(ticks) => self.play(ticks)?,
-            Call::Touch {
-                page,
-                made,
-                position,
-            } => self.song.touch(page, made, position),
+        let answer = match call {
+            Call::Play(ticks) => self.play(*ticks)?,
+            Call::Touch(touch) => self.song.touch(touch.page, touch.made, touch.position),
+            Call::Burst(touches) => self.burst(touches, &mut each),
             Call::Page => self.song.change_page(),
             Call::Why => self.why(&mut each),
         };
@@ -93,6 +90,24 @@ impl<'a> Trial<'a> {
             progress.show("ticks", answer.count, ticks.into());
         }
         Ok(answer)
+    }
+
+    /// Takes the touches as one call, which counts them.
+    fn burst(&mut self, touches: &[Touch], each: &mut Vec<u64>) -> Answer {
+        let list = |of: fn(&Touch) -> u32| -> Vec<u32> { touches.iter().map(of).collect() };
+        let mut answers = vec![0; touches.len()];
+        let lists = [
+            list(|touch| touch.page),
+            list(|touch| touch.made),
+            list(|touch| touch.position),
+        ];
+        let answer = self.song.touch_burst(&lists, &mut answers);
+        each.extend(
+            answers[..answer.count as usize]
+                .iter()
+                .map(|&n| u64::from(n)),
+        );
+        answer
     }
 
     /// Asks for each channel's cause, and counts the channels.

@@ -41,6 +41,9 @@ fn replay_names_a_bad_line() {
         "pages",
         "page 1",
         "why 1",
+        "burst",
+        "burst 1 2",
+        "burst 1 2 3 4",
     ] {
         std::fs::write(&script, format!("play 1\n{line}\n")).unwrap();
         let words = ["replay", &stored("flow"), script.to_str().unwrap()];
@@ -193,6 +196,67 @@ fn why_has_a_cause_a_channel() {
     assert!(lines[2].starts_with("0 0 4 5 0 0 1 2 "), "{out}");
     let (_, out, _) = told(&["replay", "--json", &stored("flow"), &script]);
     assert!(out.contains(r#","causes":[1,1,1,1]}"#), "{out}");
+}
+
+#[test]
+fn a_burst_has_an_answer_a_touch() {
+    let script = text("burst.txt", "play 5\nburst 0 3 1 1 5 0 0 5 3\n");
+    let (status, out, _) = told(&["replay", &stored("flow"), &script]);
+    let lines = "burst 0 3 1 1 5 0 0 5 3: accepted, 3 touches; clock 5, page 0, position 1, row 0, tick 0\n  \
+        touch 0 3 1: accepted\n  \
+        touch 1 5 0: refused 16 at 0: the touch was made on another page\n  \
+        touch 0 5 3: refused 18 at 0: the touch names a position at or past the song length\n";
+    assert_eq!(status, 0);
+    assert!(out.ends_with(lines), "{out}");
+    let (_, out, _) = told(&["replay", "--plain", &stored("flow"), &script]);
+    assert_eq!(out, "0 0 5 5 0 0 1 2\n0 0 3 5 0 1 0 0 0 16 18\n");
+    let (_, out, _) = told(&["replay", "--json", &stored("flow"), &script]);
+    assert!(out.ends_with(",\"answers\":[0,16,18]}\n"), "{out}");
+    // One touch too many: nothing is taken.
+    let script = text("burst.txt", &format!("burst{}\n", " 0 0 1".repeat(65)));
+    let (_, out, _) = told(&["replay", "--plain", &stored("flow"), &script]);
+    assert_eq!(out, "26 0 0 0 0 0 0 0\n");
+}
+
+#[test]
+fn recorded_bursts_come_again() {
+    let many = " 0 5 1".repeat(65);
+    let script = format!("play 5\nburst 0 3 1 1 5 0\nplay 2\nburst{many}\n");
+    let script = text("bursts.txt", &script);
+    let words = ["replay", &stored("flow"), &script, "--record", "-"];
+    let (status, written, _) = told(&words);
+    assert_eq!(status, 0);
+    let line = written.lines().nth(4).unwrap();
+    assert!(
+        line.starts_with("burst 0 3 1 1 5 0 = 0 0 2 0 16 5 "),
+        "{line}"
+    );
+    let line = written.lines().nth(6).unwrap();
+    assert!(
+        line.starts_with(&format!("burst{many} = 26 0 0 7 ")),
+        "{line}"
+    );
+    let check = |record: &str| {
+        let record = text("bursts.record", record);
+        told(&["replay", &stored("flow"), &record, "--check"])
+    };
+    assert_eq!(check(&written).0, 0);
+    let (status, _, err) = check(&written.replacen("2 0 16 5", "2 0 17 5", 1));
+    assert_eq!(status, 1);
+    let end = ":5: burst 0 3 1 1 5 0: touch 2: number 16, recorded 17\n";
+    assert!(err.ends_with(end), "{err}");
+    // An answer too few.
+    let (status, _, err) = check(&written.replacen("2 0 16 5", "2 0 5", 1));
+    assert_eq!(status, 2);
+    assert!(err.contains(":5: not play N"), "{err}");
+    // The same touches one by one sound the same.
+    let singles = text("singles.txt", "play 5\ntouch 0 3 1\ntouch 1 5 0\nplay 2\n");
+    let (_, other, _) = told(&["replay", &stored("flow"), &singles, "--record", "-"]);
+    let sound = |record: &str, call: &str| {
+        let line = record.lines().find(|line| line.starts_with(call)).unwrap();
+        line.rsplit(' ').next().unwrap().to_string()
+    };
+    assert_eq!(sound(&written, "play 2 "), sound(&other, "play 2 "));
 }
 
 #[test]

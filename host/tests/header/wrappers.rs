@@ -1,7 +1,8 @@
 //! The Rust wrappers' names, words and limits.
 use crate::parse::{constants, defined, entries, file, header, refusals, words, Entry};
 use lampthistle::{
-    same_cells, Answer, Cause, CHANNELS, MOST_TICKS, RATE, STATE_CELLS, TICK_NUMBERS, VERSION,
+    same_cells, Answer, Cause, CHANNELS, MOST_TICKS, MOST_TOUCHES, RATE, STATE_CELLS, TICK_NUMBERS,
+    VERSION,
 };
 
 fn pairs(entries: Vec<Entry>) -> Vec<(String, u64)> {
@@ -66,6 +67,7 @@ fn limits_are_the_header_s() {
     assert_eq!(defined("STATE_CELLS"), STATE_CELLS.to_string());
     assert_eq!(defined("TICK_NUMBERS"), TICK_NUMBERS.to_string());
     assert_eq!(defined("MOST_TICKS"), MOST_TICKS.to_string());
+    assert_eq!(defined("MOST_TOUCHES"), MOST_TOUCHES.to_string());
 }
 
 #[test]

@@ -2,6 +2,7 @@
 pub mod agreement;
 mod answers;
 pub mod bench;
+pub mod bursts;
 pub mod cases;
 pub mod demo;
 mod files;

@@ -4,14 +4,15 @@ use std::process::ExitCode;
 use std::time::Instant;
 use trials::runs::{shown, Tally};
 use trials::say::say;
-use trials::{agreement, judging, lengths, playing, quiet, streaming};
+use trials::{agreement, bursts, judging, lengths, playing, quiet, streaming};
 
 /// A trial's name, its run over so many seeds from one on, and by how much fewer of them it takes.
 type Trial = (&'static str, fn(u64, u64) -> Result<Tally, String>, u64);
 
-const TRIALS: [Trial; 6] = [
+const TRIALS: [Trial; 7] = [
     ("judge", judging::compare, 1),
     ("play, touch, page", playing::compare, 100),
+    ("touch_burst", bursts::compare, 100),
     ("why_quiet", quiet::compare, 100),
     ("translate, play_stream", streaming::compare, 100),
     ("lengths of long runs", lengths::compare, 1_000),
