@@ -31,7 +31,7 @@ use Rattle.player.specs.Keeps.{play-accepted}
 use Rattle.translator.specs.Translate.{mostTicks, freshTicks, streamOf}
 use Rattle.translator.specs.Streams.{stream-keeps, decode-stream, translated}
 use Rattle.board.specs.Board.{playedTicks, playedBy, playStreamOf}
-use Rattle.agreement.specs.Demand.{Calls, soundOf, Sounds, Kind, sixteenBits, Agreement}
+use Rattle.agreement.specs.Demand.{Calls, Sounds, Kind, sixteenBits, Agreement}
 use Rattle.agreement.specs.Plays.{plays-sounds}
 use Rattle.agreement.specs.declared.Both.{Both}
 

@@ -1,21 +1,20 @@
 -- Tick lengths and frames follow from the stream's bytes and the samples with their lengths and loops alone, never from patterns or table (`same-samples`).
 -- Assumes nothing.
-use Prim.Native.Nat.{ℕ, zero, suc, _-_, _≤_, _<_}
+use Prim.Native.Nat.{ℕ, zero, suc, _-_, _≤_}
 use mathlib.Core.Path.{_≡_, refl, sym, ap, ap₂, _∙_}
 use mathlib.Core.Bool.{Bool, cond}
 use mathlib.Core.List.{List, [], _∷_, _++_}
 use native.Mathlib.Omega.{arith}
 use lib.Dec.{leb}
 use lib.IntN.{ℤ}
-use lib.ListN.{length, getD, take}
+use lib.ListN.{length, take}
 use Rattle.common.specs.Answers.{accepted, outcome, refusing}
 use Rattle.common.specs.Limits.{width}
-use Rattle.ticks.specs.declared.Command.{Command}
 use Rattle.ticks.specs.declared.Tick.{Tick}
 use Rattle.ticks.specs.Commands.{soundingOf}
 use Rattle.ticks.specs.Legal.{LegalTick, LegalTicks, length-sounding}
-use Rattle.ticks.specs.Legal.LegalTicks.{none, more}
-use Rattle.ticks.specs.Play.{over, Mechanism, fit, rendered, playOut}
+use Rattle.ticks.specs.Legal.LegalTicks.{more}
+use Rattle.ticks.specs.Play.{over, Mechanism, fit, afterAll, rendered, playOut}
 use Rattle.reader.specs.File.{moduleOf, sampleCount, channelCount}
 use Rattle.reader.specs.Layouts.{module-legal}
 use Rattle.reader.specs.Judge.{verdict}
@@ -31,49 +30,62 @@ use Rattle.records.specs.Registers.{first-long}
 use Rattle.records.specs.Decoded.{stream-of}
 use Rattle.board.specs.Board.{playedTicks, playedBy, boardOf, playStreamOf}
 
+-- ---- two machines that play legal ticks alike, of any kind of frames
+pub record Alike {A W : Type 0} (last : ℕ) (k k′ : Mechanism A W Tick) : Type 0 where
+  pub frames : (w : W) (soundings : List ℕ) → length soundings ≡ width → (t : Tick) → LegalTick last soundings t → k .frames w t ≡ k′ .frames w t
+  pub after : (w : W) (soundings : List ℕ) → length soundings ≡ width → (t : Tick) → LegalTick last soundings t → k .after w t ≡ k′ .after w t
+
+module _ {A W : Type 0} {last : ℕ} {k k′ : Mechanism A W Tick} (alike : Alike last k k′) where
+  next-long : (soundings : List ℕ) → length soundings ≡ width → (t : Tick) → LegalTick last soundings t → length (soundingOf (t .commands)) ≡ width
+  next-long soundings long t l = length-sounding (t .commands) ∙ (l .long ∙ long)
+
+  pub fit-same : (room : ℕ) (w : W) (soundings : List ℕ) → length soundings ≡ width → (ts : List Tick) → LegalTicks last soundings ts → fit k room w ts ≡ fit k′ room w ts
+  unfolding fit
+  fit-same room w soundings long [] l = refl
+  fit-same room w soundings long (t ∷ ts) (more l ls) =
+      let n = length (k′ .frames w t) in
+      rw (alike .frames w soundings long t l, alike .after w soundings long t l)
+      (ap (λ (i : ℕ). cond (leb n room) (suc i) 0) (fit-same (room - n) (k′ .after w t) (soundingOf (t .commands)) (next-long soundings long t l) ts ls))
+
+  pub rendered-same : (w : W) (soundings : List ℕ) → length soundings ≡ width → (ts : List Tick) (n : ℕ) → LegalTicks last soundings ts → rendered k w (take n ts) ≡ rendered k′ w (take n ts)
+  unfolding rendered
+  rendered-same w soundings long ts zero l = refl
+  rendered-same w soundings long [] (suc n) l = refl
+  rendered-same w soundings long (t ∷ ts) (suc n) (more l ls) =
+      ap₂ _++_ (alike .frames w soundings long t l)
+      (ap (λ (x : W). rendered k x (take n ts)) (alike .after w soundings long t l) ∙ rendered-same (k′ .after w t) (soundingOf (t .commands)) (next-long soundings long t l) ts n ls)
+
+  pub after-alike : (w : W) (soundings : List ℕ) → length soundings ≡ width → (ts : List Tick) (n : ℕ) → LegalTicks last soundings ts → afterAll k w (take n ts) ≡ afterAll k′ w (take n ts)
+  unfolding afterAll
+  after-alike w soundings long ts zero l = refl
+  after-alike w soundings long [] (suc n) l = refl
+  after-alike w soundings long (t ∷ ts) (suc n) (more l ls) =
+      ap (λ (x : W). afterAll k x (take n ts)) (alike .after w soundings long t l) ∙ after-alike (k′ .after w t) (soundingOf (t .commands)) (next-long soundings long t l) ts n ls
+
 -- ---- samples that are equal by their numbers, up to the last
 module _ (keeping : Bool) (last c : ℕ) (room : c ≤ width) (samples others : ℕ → Sample) (same : (k : ℕ) → k ≤ last → samples k ≡ others k) where
+  -- the commands of a legal tick name samples to the last
+  pub samples-alike : Alike last (mechanism keeping c samples) (mechanism keeping c others)
+  samples-alike =
+      record {
+        frames = λ w soundings long t l. frames-same c samples others w t (λ i h. same _ (l .commands i (omega arith) .sample));
+        after = λ w soundings long t l. after-same c samples others w t (λ i h. same _ (l .commands i (omega arith) .sample)) keeping;
+      }
+
   abbrev k : Mechanism ℤ Machine Tick
   k = mechanism keeping c samples
 
   abbrev k′ : Mechanism ℤ Machine Tick
   k′ = mechanism keeping c others
 
-  -- the commands of a legal tick name samples to the last
-  module _ (w : Machine) (soundings : List ℕ) (long : length soundings ≡ width) (t : Tick) (l : LegalTick last soundings t) where
-    tick-frames : k .frames w t ≡ k′ .frames w t
-    tick-frames = frames-same c samples others w t (λ i h. same _ (l .commands i (omega arith) .sample))
-
-    tick-after : k .after w t ≡ k′ .after w t
-    tick-after = after-same c samples others w t (λ i h. same _ (l .commands i (omega arith) .sample)) keeping
-
-    next-long : length (soundingOf (t .commands)) ≡ width
-    next-long = length-sounding (t .commands) ∙ (l .long ∙ long)
-
-  fit-same : (room : ℕ) (w : Machine) (soundings : List ℕ) → length soundings ≡ width → (ts : List Tick) → LegalTicks last soundings ts → fit k room w ts ≡ fit k′ room w ts
-  unfolding fit
-  fit-same room w soundings long [] l = refl
-  fit-same room w soundings long (t ∷ ts) (more l ls) =
-      let n = length (k′ .frames w t) in
-      rw (tick-frames w soundings long t l, tick-after w soundings long t l)
-      (ap (λ (i : ℕ). cond (leb n room) (suc i) 0) (fit-same (room - n) (k′ .after w t) (soundingOf (t .commands)) (next-long w soundings long t l) ts ls))
-
-  rendered-same : (w : Machine) (soundings : List ℕ) → length soundings ≡ width → (ts : List Tick) (n : ℕ) → LegalTicks last soundings ts → rendered k w (take n ts) ≡ rendered k′ w (take n ts)
-  unfolding rendered
-  rendered-same w soundings long ts zero l = refl
-  rendered-same w soundings long [] (suc n) l = refl
-  rendered-same w soundings long (t ∷ ts) (suc n) (more l ls) =
-      ap₂ _++_ (tick-frames w soundings long t l)
-      (ap (λ (x : Machine). rendered k x (take n ts)) (tick-after w soundings long t l) ∙ rendered-same (k′ .after w t) (soundingOf (t .commands)) (next-long w soundings long t l) ts n ls)
-
   played-same : (soundings : List ℕ) → length soundings ≡ width → (ts : List Tick) (out : List ℤ) → LegalTicks last soundings ts → playedTicks keeping c samples ts out ≡ playedTicks keeping c others ts out
   unfolding playedTicks playOut
   played-same soundings long ts out l =
       ap₂ (λ (n : ℕ) (xs : List ℤ). outcome (accepted n) (over xs out)) f
-      (rendered-same freshMachine soundings long ts (fit k (length out) freshMachine ts) l ∙ ap (λ (n : ℕ). rendered k′ freshMachine (take n ts)) f)
+      (rendered-same samples-alike freshMachine soundings long ts (fit k (length out) freshMachine ts) l ∙ ap (λ (n : ℕ). rendered k′ freshMachine (take n ts)) f)
     where
       f : fit k (length out) freshMachine ts ≡ fit k′ (length out) freshMachine ts
-      f = fit-same (length out) freshMachine soundings long ts l
+      f = fit-same samples-alike (length out) freshMachine soundings long ts l
 
 module _ (last c : ℕ) (room : c ≤ width) (samples others : ℕ → Sample) (same : (k : ℕ) → k ≤ last → samples k ≡ others k) where
   board-same : (stream : List ℕ) (out : List ℤ) → boardOf last c samples stream out ≡ boardOf last c others stream out

@@ -10,7 +10,7 @@ use borrow.Author.Tests.{eq-eqb}
 use Rattle.common.specs.Answers.{accepted, Outcome, outcome, refusing}
 use Rattle.common.specs.ByteLaws.{Bytes}
 use Rattle.common.specs.declared.Answer.{Answer}
-use Rattle.ticks.specs.Play.{over, rendered, fit, afterFit, playOut}
+use Rattle.ticks.specs.Play.{fit, afterFit, playOut}
 use Rattle.reader.specs.File.{Module, moduleOf, channelCount}
 use Rattle.reader.specs.Layouts.{module-legal}
 use Rattle.reader.specs.Judge.{verdict}
@@ -19,7 +19,6 @@ use Rattle.voice.specs.Voice.{samplesOf}
 use Rattle.machine.specs.Machine.{freshMachine, mechanismOf}
 use Rattle.floats.specs.declared.Pair.{Pair}
 use Rattle.floats.specs.Frames.{unasked}
-use Rattle.float_machine.specs.declared.FloatMachine.{FloatMachine}
 use Rattle.float_machine.specs.Beside.{same-fit}
 use Rattle.player.specs.State.{freshState}
 use Rattle.player.specs.Play.{ticksOf}

@@ -3,17 +3,17 @@
 use Prim.Native.Nat.{ℕ, _+_, _-_, _*_, _≤_, _<_}
 use native.Mathlib.Nat.{mul-le-mul}
 use native.Mathlib.Omega.{arith}
-use mathlib.Core.Path.{_≡_, refl, sym, ap, _∙_}
+use mathlib.Core.Path.{_≡_, sym, ap, _∙_}
 use mathlib.Core.Bool.{Bool, true, false}
 use mathlib.Core.List.{List}
 use lib.IntN.{ℤ}
-use lib.ListN.{length, take, drop, length-append, length-drop}
+use lib.ListN.{length, take, drop}
 use lib.Seq.{take-at}
 use lib.Ieee.{Float}
 use mir.Syntax.{w32, w64}
 use mir.Val.{Fits}
 use mir.Facts.{fits-le, fits-lit}
-use borrow.Author.Tests.{lt-ltb, le-ltb}
+use borrow.Author.Tests.{lt-ltb}
 use Rattle.common.specs.Limits.{leastTempo, greatestTempo}
 use Rattle.ticks.specs.declared.Tick.{Tick}
 use Rattle.ticks.specs.Play.{Mechanism, over}
@@ -34,8 +34,7 @@ use Rattle.floats.specs.declared.Pair.{Pair}
 use Rattle.floats.specs.Frames.{floatsOf, lastOf}
 use Rattle.floats.specs.Lengths.{floats-size}
 use Rattle.float_machine.specs.declared.FloatMachine.{FloatMachine}
-use Rattle.float_machine.specs.declared.FloatTurn.{FloatTurn}
-use Rattle.float_machine.specs.Machine.{floatFrames, floatAfter, floatsBy, floatTurned}
+use Rattle.float_machine.specs.Machine.{floatFrames, floatAfter, floatsBy}
 use Rattle.float_machine.specs.Due.{Due}
 
 -- ---- how many numbers

@@ -1,13 +1,11 @@
 -- What the call goes by: 1 to 9 and 14, then 24, then the play. Laws over plain variables.
 -- Assumes nothing.
-use Prim.Native.Nat.{ℕ, _≤_}
-use mathlib.Core.Path.{_≡_, sym, ap, subst, _∙_}
-use mathlib.Core.Bool.{Bool, true, false, not, _&&_}
+use Prim.Native.Nat.{ℕ}
+use mathlib.Core.Path.{_≡_, sym, ap, _∙_}
+use mathlib.Core.Bool.{Bool, true, false}
 use mathlib.Core.List.{List, [], _∷_}
-use native.Mathlib.Omega.{arith}
-use lib.Dec.{T, eqb}
 use lib.Ieee.{Float}
-use Rattle.common.specs.Answers.{refused, outcome, line, Outcome, refusing}
+use Rattle.common.specs.Answers.{refused, outcome, line, Outcome}
 use Rattle.common.specs.AnswerLaws.{no-line, line-given, line-passed}
 use Rattle.common.specs.declared.Answer.{Answer}
 use Rattle.reader.specs.File.{lent, fourChannels, moduleOf}

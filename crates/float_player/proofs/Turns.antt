@@ -31,7 +31,7 @@ use Rattle.float_machine.specs.Due.{Due, Counted, counted-due, counted-more}
 use Rattle.float_machine.specs.Beside.{floats-hold}
 use Rattle.player.specs.declared.State.{State}
 use Rattle.player.specs.State.{reply}
-use Rattle.player.specs.Play.{soundings, machineOf}
+use Rattle.player.specs.Play.{soundings}
 use Rattle.player.specs.Legal.{Playable}
 use Rattle.player.specs.Running.{Over}
 use Rattle.player.specs.Turning.{Turning, turning-none, turning-tempo, turning-ready, turned-all, turned-full, turning-long, turning-more}

@@ -17,7 +17,6 @@ use Rattle.reader.specs.File.{Module, moduleOf, channelCount}
 use Rattle.reader.specs.Judge.{verdict}
 use Rattle.reader.specs.Layouts.{module-legal}
 use Rattle.voice.specs.Voice.{samplesOf}
-use Rattle.machine.specs.declared.Machine.{Machine}
 use Rattle.machine.specs.Machine.{mechanismOf}
 use Rattle.floats.specs.declared.Pair.{Pair}
 use Rattle.floats.specs.Frames.{unasked, floatsOf}
@@ -25,7 +24,7 @@ use Rattle.float_machine.specs.declared.FloatMachine.{FloatMachine}
 use Rattle.float_machine.specs.Beside.{same-machine, same-numbers}
 use Rattle.player.specs.declared.State.{State}
 use Rattle.player.specs.State.{legalState}
-use Rattle.player.specs.Play.{ticksOf, stateAfter, machineOf, numbersOf}
+use Rattle.player.specs.Play.{ticksOf, stateAfter, numbersOf}
 use Rattle.player.specs.Legal.{LegalState, state-has, state-by}
 use Rattle.player.specs.Counts.{first-fits, first-most, first-machine, first-out, ticked}
 use Rattle.player.specs.Keeps.{ticked-legal}

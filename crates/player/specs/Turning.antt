@@ -26,7 +26,7 @@ use Rattle.voice.specs.LegalFacts.{Ready}
 use Rattle.voice.specs.Modules.{samplesIn}
 use Rattle.machine.specs.declared.Machine.{Machine}
 use Rattle.machine.specs.Machine.{after}
-use Rattle.machine.specs.Turn.{Turned, turn, turnOf}
+use Rattle.machine.specs.Turn.{turn, turnOf}
 use Rattle.machine.specs.Turns.{turn-machine}
 use Rattle.machine.specs.Kept.{after-below}
 use Rattle.machine.specs.Carries.{Holds, holds-carries}
