@@ -2,13 +2,15 @@
 
    ANSWERS
    A call answers a number, a place and a count. Number 0 is accepted; another number is a refusal, and the place says where, 0 where
-   none is named. The count is ticks played (play, play_stream), touches answered (touch_burst), bytes written (translate) or a cause's
-   number (why_quiet); 0 for the other calls and for every refusal. All three cells are written by every call that takes them. lampthistle_refusal_text says a number in words.
+   none is named. The count is ticks played (play, play_stream, and the same as floats), touches answered (touch_burst), bytes written
+   (translate) or a cause's number (why_quiet); 0 for the other calls and for every refusal. All three cells are written by every call
+   that takes them. lampthistle_refusal_text says a number in words.
 
    WHAT A CALLER OWES
    Every pointer is aligned for its type and good for its length for the whole call, and none that is written overlaps another. A
-   length counts elements: bytes of a file, stream or room, 16-bit numbers of a sound buffer, numbers of a list. A pointer that comes
-   with a length may be null where the length is 0; a state and an answer may not. Nothing else is asked: any bytes and any numbers may be passed.
+   length counts elements: bytes of a file, stream or room, 16-bit numbers or floats of a sound buffer, numbers of a list. A pointer that
+   comes with a length may be null where the length is 0; a state, an answer, a pair and its tick may not. Nothing else is asked: any
+   bytes and any numbers may be passed.
 
    WHAT A CALLER GETS
    Every call returns, on any input. A refused call writes the answer and nothing else: the state and every lent buffer stay. An
@@ -17,7 +19,8 @@
    THREADS AND MEMORY
    The library has no memory of its own, allocates nothing, does no I/O and keeps no pointer: calls on separate data may run in any
    threads at once. One state is for one thread at a time. A file or stream that is only read may be shared. A call takes at most
-   LAMPTHISTLE_STACK_BYTES of stack, whatever its input.
+   LAMPTHISTLE_STACK_BYTES of stack, whatever its input; a call that plays floats LAMPTHISTLE_FLOAT_STACK_BYTES, since it holds one
+   tick's 16-bit numbers there.
 
    FRAMES
    48,000 frames a second, two signed 16-bit numbers a frame, left first. A tick has (120,000 + remainder) div tempo frames, and the
@@ -25,6 +28,18 @@
    125, 470 or 471 at tempo 255, never more than 3,750. A tick whose tempo is not that of the tick before begins with remainder 0. Only
    whole ticks are played, so a buffer of LAMPTHISTLE_TICK_NUMBERS always takes one. To pull sound as it is needed, play one tick a
    call; lampthistle_tick_numbers then says how many numbers it wrote.
+
+   FLOATS
+   play_floats and play_stream_floats play the same ticks as 32-bit floats, for as many sides as are asked for. A frame is then
+     for 1 side, LAMPTHISTLE_MONO, one number: the sum of left and right / 65,536;
+     for 2 sides, LAMPTHISTLE_STEREO, two numbers: left / 32,768, then right / 32,768;
+   each from -1 up to, not including, 1. Every float is exact, so that left and right times 32,768 are the 16-bit numbers again. 0 is
+   positive zero, all 32 bits 0, also where left and right are opposite and mono is asked for. A frame whose left and right are both 0 is
+   silence: as many zeros as there are sides. Any other number of sides is refused (24). A tick of n frames takes n times the sides floats,
+   so a buffer of LAMPTHISTLE_TICK_NUMBERS takes any one; lampthistle_tick_floats says how many a call for one tick wrote.
+   The left and right of the last frame that a call played go to `pair`, as floats for two sides, also where mono is asked for; its tick,
+   counted from 0 in the call, goes to `pair_tick`. A call that plays no frame, and a refused one, leaves both as they are. What they hold
+   before is never judged: it may be NaN.
 
    STATES
    A state is LAMPTHISTLE_STATE_CELLS plain numbers. lampthistle_fresh makes the first one; it may be copied, stored and sent, and
@@ -74,12 +89,16 @@ extern "C" {
 #define LAMPTHISTLE_STATE_CELLS 57
 /* The most numbers that one tick takes: 3,750 frames at tempo 32. */
 #define LAMPTHISTLE_TICK_NUMBERS 7500
+/* The sides of a frame of floats. */
+#define LAMPTHISTLE_MONO 1
+#define LAMPTHISTLE_STEREO 2
 /* The most ticks that one translation takes. */
 #define LAMPTHISTLE_MOST_TICKS 65535
 /* The most touches that one burst takes. */
 #define LAMPTHISTLE_MOST_TOUCHES 64
-/* The most stack that one call takes. */
+/* The most stack that one call takes, and one that plays floats. */
 #define LAMPTHISTLE_STACK_BYTES 8192
+#define LAMPTHISTLE_FLOAT_STACK_BYTES 32768
 
 /* An answer's cells. */
 enum lampthistle_answer_cell {
@@ -89,8 +108,8 @@ enum lampthistle_answer_cell {
     LAMPTHISTLE_ANSWER_CELLS
 };
 
-/* An answer's numbers, each with its place. The smallest number wins; of bad cells the first in the file decides, with
-   SAMPLE_NUMBER before PERIOD in one cell. */
+/* An answer's numbers, each with its place. The smallest number wins, but SIDES comes before those of a stream; of bad cells the first
+   in the file decides, with SAMPLE_NUMBER before PERIOD in one cell. */
 enum lampthistle_refusal {
     LAMPTHISTLE_ACCEPTED = 0,
     /* of the file, by every call that is lent one */
@@ -116,6 +135,8 @@ enum lampthistle_refusal {
     LAMPTHISTLE_REFUSED_STREAM_LENGTH = 21,  /* its length */
     LAMPTHISTLE_REFUSED_STREAM_VERSION = 22, /* 4 */
     LAMPTHISTLE_REFUSED_RECORD = 23,         /* that record, or the first byte left */
+    /* of a play as floats */
+    LAMPTHISTLE_REFUSED_SIDES = 24, /* 0 */
     /* of a question why a channel is quiet */
     LAMPTHISTLE_REFUSED_CHANNEL = 25, /* 0 */
     /* of a burst of touches, by its lists */
@@ -147,6 +168,7 @@ static inline const char *lampthistle_refusal_text(uint64_t number) {
         return "the stream is shorter than 9 bytes, or its length is not 4 plus its first number";
     case LAMPTHISTLE_REFUSED_STREAM_VERSION: return "the stream's version is neither 1 nor 2";
     case LAMPTHISTLE_REFUSED_RECORD: return "a record of the stream is bad, or bytes are left over";
+    case LAMPTHISTLE_REFUSED_SIDES: return "the sides asked for are neither 1 nor 2";
     case LAMPTHISTLE_REFUSED_CHANNEL: return "the channel is not 1 to 4";
     case LAMPTHISTLE_REFUSED_TOUCHES: return "a touch list is longer than 64";
     case LAMPTHISTLE_REFUSED_ANSWERS: return "the answer list is shorter than the longest touch list";
@@ -228,6 +250,12 @@ static inline size_t lampthistle_tick_numbers(const uint32_t before[LAMPTHISTLE_
     return tempo == 0 ? 0 : 2 * ((120000 + remainder) / tempo);
 }
 
+/* The same of a call of play_floats for one tick, in floats, for so many sides. */
+static inline size_t lampthistle_tick_floats(const uint32_t before[LAMPTHISTLE_STATE_CELLS],
+                                             const uint32_t after[LAMPTHISTLE_STATE_CELLS], uint32_t sides) {
+    return sides * (lampthistle_tick_numbers(before, after) / 2);
+}
+
 /* The version of the library that is linked, as LAMPTHISTLE_VERSION. */
 uint32_t lampthistle_version(void);
 
@@ -241,6 +269,13 @@ void lampthistle_fresh(uint32_t state[LAMPTHISTLE_STATE_CELLS]);
    the frames lie at the beginning of `out`, and the rest of `out` stays. Refusals 1 to 9, 14. */
 void lampthistle_play(const uint8_t *file, size_t file_len, uint32_t state[LAMPTHISTLE_STATE_CELLS], uint32_t ticks,
                       int16_t *out, size_t out_len, uint64_t answer[LAMPTHISTLE_ANSWER_CELLS]);
+
+/* Plays as lampthistle_play does, but floats for 1 or 2 `sides`: the largest number of whole ticks, up to `ticks`, whose floats fit into
+   `out`. The last frame's left and right go to `pair` and its tick in the call to `pair_tick`; without a frame both stay. Refusals 1 to 9,
+   14, 24. */
+void lampthistle_play_floats(const uint8_t *file, size_t file_len, uint32_t state[LAMPTHISTLE_STATE_CELLS], uint32_t ticks,
+                             uint32_t sides, float *out, size_t out_len, float pair[2], uint32_t *pair_tick,
+                             uint64_t answer[LAMPTHISTLE_ANSWER_CELLS]);
 
 /* Takes a touch: the song goes to the beginning of `position`; voices, speed, tempo, remainder, clock and page stay. Refusals 1 to 9,
    14, 16 to 18. */
@@ -274,6 +309,12 @@ void lampthistle_translate(const uint8_t *file, size_t file_len, uint32_t ticks,
    judged, also those that do not fit. */
 void lampthistle_play_stream(const uint8_t *stream, size_t stream_len, const uint8_t *file, size_t file_len,
                              int16_t *out, size_t out_len, uint64_t answer[LAMPTHISTLE_ANSWER_CELLS]);
+
+/* Plays as lampthistle_play_stream does, but floats for 1 or 2 `sides`, with `pair` and `pair_tick` as in lampthistle_play_floats.
+   Refusals 1 to 9, 24, 21 to 23, in this order. */
+void lampthistle_play_stream_floats(const uint8_t *stream, size_t stream_len, const uint8_t *file, size_t file_len,
+                                    uint32_t sides, float *out, size_t out_len, float pair[2], uint32_t *pair_tick,
+                                    uint64_t answer[LAMPTHISTLE_ANSWER_CELLS]);
 
 #ifdef __cplusplus
 }

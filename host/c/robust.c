@@ -92,6 +92,33 @@ static void buffers(const input *in, int k, size_t numbers, size_t guard) {
     free(out.at), free(board.at), free(room.at);
 }
 
+/* The calls that write floats, on a part of a block, with the record in blocks of their own: left and right, and its tick. */
+static void floats(const input *in, int k, size_t numbers, size_t guard) {
+    uint64_t answer[LAMPTHISTLE_ANSWER_CELLS];
+    uint32_t state[LAMPTHISTLE_STATE_CELLS], sides = (uint32_t)(k % 4);
+    size_t bytes = numbers * sizeof(float);
+    block out = new_block(bytes + 2 * guard), board = new_block(bytes + 2 * guard);
+    block pair = new_block(2 * sizeof(float)), tick = new_block(sizeof(uint32_t));
+    float *left = (float *)(void *)pair.at;
+    uint32_t *pair_tick = (uint32_t *)(void *)tick.at;
+
+    memcpy(state, in->state.at, sizeof state);
+    lampthistle_play_floats(in->module.at, in->module.bytes, state, 3, sides, (float *)(void *)within(out, guard), numbers, left, pair_tick,
+                            answer);
+    count(answer, k);
+    check(kept(out, guard, answer[LAMPTHISTLE_NUMBER] == 0 ? bytes : 0), "play_floats wrote outside", k);
+    check(answer[LAMPTHISTLE_NUMBER] == 0 || memcmp(state, in->state.at, sizeof state) == 0, "a refused play_floats changed the state", k);
+    check((answer[LAMPTHISTLE_COUNT] == 0) == (kept(pair, 0, 0) && kept(tick, 0, 0)), "play_floats and the record", k);
+    memset(pair.at, PATTERN, pair.bytes), memset(tick.at, PATTERN, tick.bytes);
+
+    lampthistle_play_stream_floats(in->stream.at, in->stream.bytes, in->module.at, in->module.bytes, sides,
+                                   (float *)(void *)within(board, guard), numbers, left, pair_tick, answer);
+    count(answer, k);
+    check(kept(board, guard, answer[LAMPTHISTLE_NUMBER] == 0 ? bytes : 0), "play_stream_floats wrote outside", k);
+    check((answer[LAMPTHISTLE_COUNT] == 0) == (kept(pair, 0, 0) && kept(tick, 0, 0)), "play_stream_floats and the record", k);
+    free(out.at), free(board.at), free(pair.at), free(tick.at);
+}
+
 /* A list of numbers, of which each is n, in a block with guard cells. */
 static block new_list(size_t numbers, size_t guard, uint32_t n) {
     block list = new_block(numbers * sizeof n + 2 * guard);
@@ -171,6 +198,8 @@ int main(int words, char **word) {
         burst(&in, k, touches, GUARD);
         buffers(&in, k, numbers, 0);
         buffers(&in, k, numbers, GUARD);
+        floats(&in, k, numbers, 0);
+        floats(&in, k, numbers, GUARD);
         check(before == (sum(in.module) ^ sum(in.stream) ^ sum(in.state)), "an input was changed", k);
         free(in.module.at), free(in.state.at), free(in.stream.at);
     }

@@ -1,4 +1,4 @@
-/* stack MODULE: how much stack each call takes, which must not be more than the header says. Each call is made on a thread whose stack
+/* stack MODULE: how much stack each call takes, which must not be more than the header says of it. Each call is made on a thread whose stack
    was filled with a pattern; what it took is what is no longer the pattern, less what a call that does nothing takes. The paths are
    those of a module that plays, from its first tick to its last, of its stream, and of each call's refusal. */
 #define _POSIX_C_SOURCE 200809L
@@ -15,6 +15,8 @@ static uint8_t stack[STACK] __attribute__((aligned(4096)));
 static uint8_t module[MODULE], room[ROOM];
 static size_t module_length, stream_length;
 static int16_t out[NUMBERS];
+static float floats[NUMBERS], pair[2];
+static uint32_t pair_tick;
 static uint32_t zeros[TOUCHES], clocks[TOUCHES], answers[TOUCHES];
 static lampthistle_state state;
 static uint64_t answer[LAMPTHISTLE_ANSWER_CELLS];
@@ -35,6 +37,11 @@ static void *fresh(void *none) {
 
 static void *play(void *none) {
     lampthistle_play(module, module_length, state.cell, TICKS, out, NUMBERS, answer);
+    return none;
+}
+
+static void *play_floats(void *none) {
+    lampthistle_play_floats(module, module_length, state.cell, TICKS, LAMPTHISTLE_STEREO, floats, NUMBERS, pair, &pair_tick, answer);
     return none;
 }
 
@@ -71,6 +78,11 @@ static void *play_stream(void *none) {
     return none;
 }
 
+static void *play_stream_floats(void *none) {
+    lampthistle_play_stream_floats(room, stream_length, module, module_length, LAMPTHISTLE_MONO, floats, NUMBERS, pair, &pair_tick, answer);
+    return none;
+}
+
 /* The bytes of a stack that grows down which are no longer the pattern. */
 static size_t taken(void *(*call)(void *)) {
     pthread_attr_t about;
@@ -87,40 +99,47 @@ static size_t taken(void *(*call)(void *)) {
 
 static size_t measure(const char *name, void *(*call)(void *)) {
     size_t bytes = taken(call) - taken(nothing);
-    printf("  %-12s %6lu bytes, answer %lu\n", name, (unsigned long)bytes, (unsigned long)answer[LAMPTHISTLE_NUMBER]);
+    printf("  %-18s %6lu bytes, answer %lu\n", name, (unsigned long)bytes, (unsigned long)answer[LAMPTHISTLE_NUMBER]);
     return bytes;
 }
 
-/* All calls; the most that one takes. */
-static size_t measure_all(void) {
+/* All calls; whether each takes what it may. */
+static int measure_all(void) {
     static const struct {
         const char *name;
         void *(*call)(void *);
     } CALLS[] = {{"fresh", fresh}, {"judge", judge}, {"play", play}, {"why_quiet", why_quiet}, {"touch", touch},
-                 {"touch_burst", touch_burst}, {"change_page", change_page}, {"translate", translate}, {"play_stream", play_stream}};
-    size_t most = 0, bytes, k;
+                 {"touch_burst", touch_burst}, {"change_page", change_page}, {"translate", translate}, {"play_stream", play_stream}},
+      FLOATS[] = {{"play_floats", play_floats}, {"play_stream_floats", play_stream_floats}};
+    size_t most = 0, most_floats = 0, bytes, k;
     for (k = 0; k < sizeof CALLS / sizeof CALLS[0]; k++) {
         bytes = measure(CALLS[k].name, CALLS[k].call);
         if (bytes > most) most = bytes;
     }
-    return most;
+    for (k = 0; k < sizeof FLOATS / sizeof FLOATS[0]; k++) {
+        bytes = measure(FLOATS[k].name, FLOATS[k].call);
+        if (bytes > most_floats) most_floats = bytes;
+    }
+    printf("stack: %lu bytes at most, %d allowed; of floats %lu, %d allowed\n", (unsigned long)most, LAMPTHISTLE_STACK_BYTES,
+           (unsigned long)most_floats, LAMPTHISTLE_FLOAT_STACK_BYTES);
+    return most <= LAMPTHISTLE_STACK_BYTES && most_floats <= LAMPTHISTLE_FLOAT_STACK_BYTES;
 }
 
 int main(int words, char **word) {
     FILE *in = words == 2 ? fopen(word[1], "rb") : NULL;
-    size_t most, refused;
+    int played, refused;
     if (!in) return fprintf(stderr, "usage: stack MODULE\n"), 2;
     module_length = fread(module, 1, sizeof module, in);
     fclose(in);
     /* The loader finds memcpy and memset at their first call, on the stack of that call: once before anything is measured. */
     lampthistle_fresh(state.cell);
     play(NULL);
+    play_floats(NULL);
     translate(NULL);
     play_stream(NULL);
-    most = measure_all();
+    play_stream_floats(NULL);
+    played = measure_all();
     module[1080] = 0;
     refused = measure_all();
-    if (refused > most) most = refused;
-    printf("stack: %lu bytes at most, %d allowed\n", (unsigned long)most, LAMPTHISTLE_STACK_BYTES);
-    return most > LAMPTHISTLE_STACK_BYTES;
+    return !played || !refused;
 }

@@ -111,6 +111,7 @@ fn meaning(number: u64) -> &'static str {
         }
         refusal::STREAM_VERSION => "the stream's version is neither 1 nor 2",
         refusal::RECORD => "a record of the stream is bad, or bytes are left over",
+        refusal::SIDES => "the sides asked for are neither 1 nor 2",
         refusal::CHANNEL => "the channel is not 1 to 4",
         refusal::TOUCHES => "a touch list is longer than 64",
         refusal::ANSWERS => "the answer list is shorter than the longest touch list",

@@ -22,6 +22,7 @@
 
 mod answer;
 pub mod cell;
+mod floats;
 mod play;
 mod quiet;
 pub mod refusal;
@@ -30,6 +31,7 @@ mod sys;
 mod version;
 
 pub use answer::{Answer, Refusal};
+pub use floats::{play_floats, play_stream_floats, tick_floats, Pair, MONO, STEREO};
 pub use play::{
     change_page, fresh, play, tick_frames, tick_numbers, tick_rest, touch, touch_burst, State,
     CHANNELS, MOST_TOUCHES, RATE, STATE_CELLS, TICK_NUMBERS,

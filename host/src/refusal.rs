@@ -18,6 +18,7 @@ pub const POSITION: u64 = 18;
 pub const STREAM_LENGTH: u64 = 21;
 pub const STREAM_VERSION: u64 = 22;
 pub const RECORD: u64 = 23;
+pub const SIDES: u64 = 24;
 pub const CHANNEL: u64 = 25;
 pub const TOUCHES: u64 = 26;
 pub const ANSWERS: u64 = 27;

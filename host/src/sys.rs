@@ -3,6 +3,7 @@ use crate::STATE_CELLS;
 
 type State = [u32; STATE_CELLS];
 type Answer = [u64; 3];
+type Pair = [f32; 2];
 
 extern "C" {
     pub fn lampthistle_version() -> u32;
@@ -15,6 +16,18 @@ extern "C" {
         ticks: u32,
         out: *mut i16,
         out_len: usize,
+        answer: *mut Answer,
+    );
+    pub fn lampthistle_play_floats(
+        file: *const u8,
+        file_len: usize,
+        state: *mut State,
+        ticks: u32,
+        sides: u32,
+        out: *mut f32,
+        out_len: usize,
+        pair: *mut Pair,
+        pair_tick: *mut u32,
         answer: *mut Answer,
     );
     pub fn lampthistle_touch(
@@ -68,6 +81,18 @@ extern "C" {
         file_len: usize,
         out: *mut i16,
         out_len: usize,
+        answer: *mut Answer,
+    );
+    pub fn lampthistle_play_stream_floats(
+        stream: *const u8,
+        stream_len: usize,
+        file: *const u8,
+        file_len: usize,
+        sides: u32,
+        out: *mut f32,
+        out_len: usize,
+        pair: *mut Pair,
+        pair_tick: *mut u32,
         answer: *mut Answer,
     );
 }

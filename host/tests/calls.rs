@@ -1,7 +1,8 @@
 //! The safe wrappers, on modules small enough to know every answer.
 use lampthistle::{
-    cell, change_page, fresh, judge, play, play_stream, tick_frames, tick_numbers, tick_rest,
-    touch, touch_burst, translate, why_quiet, Answer, Cause, Refusal,
+    cell, change_page, fresh, judge, play, play_floats, play_stream, play_stream_floats,
+    tick_floats, tick_frames, tick_numbers, tick_rest, touch, touch_burst, translate, why_quiet,
+    Answer, Cause, Pair, Refusal, MONO, STEREO,
 };
 
 /// One empty pattern and no samples: 2,108 bytes.
@@ -142,6 +143,96 @@ fn the_two_whole_streams_are_given() {
     }
     assert_eq!(translate(&empty(), 65_536, &mut []), refused(11, 0));
     assert_eq!(play_stream(&[], &empty(), &mut []), refused(21, 0));
+}
+
+/// A record that no call may change: NaNs, by their bits.
+const HELD: [u32; 3] = [0x7FA1_2345, 0xFFC0_0001, 77];
+
+fn held() -> Pair {
+    let [left, right] = [HELD[0], HELD[1]].map(f32::from_bits);
+    Pair {
+        left,
+        right,
+        tick: HELD[2],
+    }
+}
+
+fn bits(pair: &Pair) -> [u32; 3] {
+    [pair.left.to_bits(), pair.right.to_bits(), pair.tick]
+}
+
+#[test]
+fn floats_are_the_numbers_divided() {
+    let file = one_note();
+    let mut numbers = [0; 1_920];
+    assert_eq!(play(&file, &mut fresh(), 1, &mut numbers), accepted(1));
+    for (sides, divisor) in [(MONO, 65_536.0), (STEREO, 32_768.0)] {
+        let (mut state, mut last) = (fresh(), held());
+        let mut out = [9.0; 2_881];
+        let floats = 960 * sides as usize;
+        let room = &mut out[..floats + 959];
+        let answer = play_floats(&file, &mut state, 5, sides, room, &mut last);
+        assert_eq!(answer, accepted(1));
+        assert_eq!(tick_floats(&fresh(), &state, sides), floats);
+        // Left alone sounds.
+        for (frame, pair) in numbers.chunks_exact(2).enumerate() {
+            let left = out[sides as usize * frame];
+            assert_eq!(left.to_bits(), (f32::from(pair[0]) / divisor).to_bits());
+        }
+        assert!(out[floats..].iter().all(|&float| float == 9.0));
+        assert_eq!(bits(&last), [(12_800.0_f32 / 32_768.0).to_bits(), 0, 0]);
+        let mut board = [9.0; 2_881];
+        let mut stream = [0; 17];
+        assert_eq!(translate(&file, 1, &mut stream), accepted(17));
+        let mut its = held();
+        let answer = play_stream_floats(&stream, &file, sides, &mut board, &mut its);
+        assert_eq!((answer, bits(&its)), (accepted(1), bits(&last)));
+        assert_eq!(board, out);
+    }
+}
+
+#[test]
+fn the_record_s_tick_counts_in_the_call_and_no_frame_keeps_it() {
+    let (mut state, mut last) = (fresh(), held());
+    let mut out = [9.0; 2_880];
+    for (room, ticks, tick) in [(2_880, 9, 2), (960, 9, 0)] {
+        let room = &mut out[..room];
+        let answer = play_floats(&empty(), &mut state, ticks, MONO, room, &mut last);
+        // A silence is a frame.
+        assert_eq!(
+            (answer, bits(&last)),
+            (accepted(tick + 1), [0, 0, tick as u32])
+        );
+    }
+    let (before, mut last) = (state, held());
+    for (room, ticks) in [(0, 9), (1_919, 9), (1_920, 0)] {
+        let room = &mut out[..room];
+        let answer = play_floats(&empty(), &mut state, ticks, STEREO, room, &mut last);
+        assert_eq!((answer, bits(&last)), (accepted(0), HELD));
+    }
+    assert_eq!(state, before);
+}
+
+#[test]
+fn other_sides_than_1_and_2_are_refused() {
+    let (mut state, mut last, mut out) = (fresh(), held(), [9.0; 2_000]);
+    let short = &one_note()[..1_000];
+    for sides in [0, 3, 257, u32::MAX] {
+        let answer = play_floats(&one_note(), &mut state, 1, sides, &mut out, &mut last);
+        assert_eq!((answer, state), (refused(24, 0), fresh()));
+        let mut bad = fresh();
+        bad.0[cell::ROW] = 64;
+        let answer = play_floats(&one_note(), &mut bad, 1, sides, &mut out, &mut last);
+        assert_eq!(answer, refused(14, 0));
+        // On the board after 9 and before 21.
+        let answer = play_stream_floats(&[], &one_note(), sides, &mut out, &mut last);
+        assert_eq!(answer, refused(24, 0));
+        let answer = play_stream_floats(&[], short, sides, &mut out, &mut last);
+        assert_eq!(answer, refused(1, 1_000));
+    }
+    let answer = play_stream_floats(&[], &one_note(), MONO, &mut out, &mut last);
+    assert_eq!(answer, refused(21, 0));
+    assert_eq!((bits(&last), out), (HELD, [9.0; 2_000]));
 }
 
 #[test]

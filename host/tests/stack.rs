@@ -67,16 +67,26 @@ fn depth(all: &HashMap<String, Function>, name: &str, above: &[&str]) -> u64 {
     WORD + function.frame + below.max().unwrap_or(0)
 }
 
+/// What the header says of a limit.
+fn allowed(limit: &str) -> u64 {
+    let start = format!("#define LAMPTHISTLE_{limit} ");
+    let line = HEADER.lines().find_map(|line| line.strip_prefix(&start));
+    line.unwrap().parse().unwrap()
+}
+
 #[test]
 fn no_chain_of_calls_takes_more_stack_than_the_header_says() {
-    let start = "#define LAMPTHISTLE_STACK_BYTES ";
-    let line = HEADER.lines().find_map(|line| line.strip_prefix(start));
-    let allowed: u64 = line.unwrap().parse().unwrap();
     let all = functions();
     let exported = all.keys().filter(|name| name.starts_with("lampthistle_"));
-    let depths: Vec<u64> = exported.map(|name| depth(&all, name, &[])).collect();
-    assert!(depths.len() >= 10, "{} calls", depths.len());
-    let most = *depths.iter().max().unwrap();
-    // A bound far below the frames of the code would mean that they were not read.
-    assert!((1_000..=allowed).contains(&most), "{most} bytes");
+    let (floats, others): (Vec<&String>, Vec<&String>) =
+        exported.partition(|name| name.ends_with("_floats"));
+    assert!(others.len() >= 10, "{others:?}");
+    assert_eq!(floats.len(), 2);
+    for (names, limit) in [(others, "STACK_BYTES"), (floats, "FLOAT_STACK_BYTES")] {
+        let depths = names.iter().map(|name| depth(&all, name, &[]));
+        let most = depths.max().unwrap();
+        // A bound far below the frames of the code would mean that they were not read.
+        let allowed = 1_000..=allowed(limit);
+        assert!(allowed.contains(&most), "{limit}: {most} bytes");
+    }
 }

@@ -5,6 +5,7 @@
 //! piece is played as a stream of its own, which begins at the last such tick before the oldest of the channels' last starts; the frames
 //! of this run-up are left out. docs/DECISIONS.md says what this costs.
 use super::input::Source;
+use super::number::Number;
 use super::records::{self, Lengths, Records};
 use super::stop::Stop;
 use lampthistle::{refusal, Answer, CHANNELS};
@@ -29,8 +30,10 @@ type Place<'a> = (u64, Records<'a>);
 type Start<'a> = (u64, Place<'a>);
 
 /// An accepted stream that is being played.
-pub struct Board<'a> {
+pub struct Board<'a, N> {
     file: &'a [u8],
+    /// The numbers of a frame.
+    sides: usize,
     version: u8,
     /// The numbers of a piece at least, but for the last.
     piece: usize,
@@ -41,21 +44,22 @@ pub struct Board<'a> {
     /// The last tick that began with remainder 0.
     even: Place<'a>,
     started: [Option<Start<'a>>; CHANNELS],
-    numbers: Vec<i16>,
+    numbers: Vec<N>,
     /// The numbers of the piece's ticks that are still to be given, from this one on.
     at: usize,
     parts: std::vec::IntoIter<usize>,
 }
 
-impl<'a> Board<'a> {
-    pub fn new(stream: &'a [u8], file: &'a [u8]) -> Board<'a> {
-        Board::in_pieces(PIECE_NUMBERS, stream, file)
+impl<'a, N: Number> Board<'a, N> {
+    pub fn new(stream: &'a [u8], file: &'a [u8], sides: usize) -> Board<'a, N> {
+        Board::in_pieces(PIECE_NUMBERS, stream, file, sides)
     }
 
-    fn in_pieces(piece: usize, stream: &'a [u8], file: &'a [u8]) -> Board<'a> {
+    fn in_pieces(piece: usize, stream: &'a [u8], file: &'a [u8], sides: usize) -> Board<'a, N> {
         let (version, all) = (records::version(stream), records::records(stream));
         Board {
             file,
+            sides,
             version,
             piece,
             tick: 0,
@@ -70,7 +74,7 @@ impl<'a> Board<'a> {
     }
 
     /// The next tick's numbers; none after the last.
-    pub fn next(&mut self) -> Result<Option<&[i16]>, Stop> {
+    pub fn next(&mut self) -> Result<Option<&[N]>, Stop> {
         if self.parts.len() == 0 {
             self.play_piece()?;
         }
@@ -89,7 +93,7 @@ impl<'a> Board<'a> {
         let all = run_up + parts.iter().sum::<usize>();
         reserve(&mut self.numbers, all)?;
         let (stream, ticks) = piece.finish();
-        let answer = lampthistle::play_stream(&stream, self.file, &mut self.numbers);
+        let answer = N::play_stream(&stream, self.file, self.sides, &mut self.numbers);
         if !answer.is_accepted() || answer.count != ticks {
             let tick = self.tick;
             return Err(Stop::Cannot(format!(
@@ -113,7 +117,7 @@ impl<'a> Board<'a> {
                 let begun = start.as_ref().is_some_and(|(begin, _)| *begin <= tick);
                 *command = command.filter(|_| begun);
             }
-            numbers += 2 * lengths.next(record.tempo);
+            numbers += self.sides * lengths.next(record.tempo);
             piece.write(&record);
         }
         numbers
@@ -137,7 +141,7 @@ impl<'a> Board<'a> {
             }
             piece.write(&record);
             self.tick += 1;
-            let part = 2 * self.lengths.next(record.tempo);
+            let part = self.sides * self.lengths.next(record.tempo);
             parts.push(part);
             numbers += part;
         }
@@ -146,14 +150,14 @@ impl<'a> Board<'a> {
 }
 
 /// Makes room for so many numbers, as far as the memory goes.
-fn reserve(numbers: &mut Vec<i16>, all: usize) -> Result<(), Stop> {
+fn reserve<N: Number>(numbers: &mut Vec<N>, all: usize) -> Result<(), Stop> {
     numbers.truncate(0);
     if numbers.try_reserve_exact(all).is_err() {
         return Err(Stop::Cannot(format!(
             "no memory for {all} numbers, the sound since the oldest note that is held"
         )));
     }
-    numbers.resize(all, 0);
+    numbers.resize(all, N::default());
     Ok(())
 }
 
@@ -178,25 +182,32 @@ mod tests {
             let (file, mut stream) = stored(name, 400);
             for version in [1, 2] {
                 stream[4] = version;
-                whole_in_pieces(&file, &stream);
+                whole_in_pieces::<i16>(&file, &stream, 2);
+                whole_in_pieces::<f32>(&file, &stream, 1);
+                whole_in_pieces::<f32>(&file, &stream, 2);
             }
         }
     }
 
-    fn whole_in_pieces(file: &[u8], stream: &[u8]) {
-        let numbers = 2 * records::frames(stream) as usize;
-        let mut whole = vec![0; numbers];
-        let answer = lampthistle::play_stream(stream, file, &mut whole);
+    fn whole_in_pieces<N: Number>(file: &[u8], stream: &[u8], sides: usize) {
+        let numbers = sides * records::frames(stream) as usize;
+        let mut whole = vec![N::default(); numbers];
+        let answer = N::play_stream(stream, file, sides, &mut whole);
         assert_eq!(answer.count, 400);
-        let answer = lampthistle::play_stream(stream, file, &mut vec![0; numbers - 1]);
+        let answer = N::play_stream(stream, file, sides, &mut whole.clone()[1..]);
         assert_eq!(answer.count, 399);
         for piece in [1, 941, 5_000, 100_000] {
-            let mut board = Board::in_pieces(piece, stream, file);
+            let mut board = Board::<N>::in_pieces(piece, stream, file, sides);
             let mut joined = Vec::new();
             while let Ok(Some(numbers)) = board.next() {
                 joined.extend_from_slice(numbers);
             }
-            assert!(joined == whole, "version {} by {piece}", stream[4]);
+            let same = joined.iter().zip(&whole).all(|(a, b)| a.same(*b));
+            let version = stream[4];
+            assert!(
+                joined.len() == whole.len() && same,
+                "version {version} by {piece}"
+            );
         }
     }
 }

@@ -1,29 +1,29 @@
 //! compare FILE: the player, number by number, with the sound board, a given stream or a recording.
 use super::board::{self, Board};
 use super::input::{self, Source};
-use super::json::{self, Fields};
+use super::json::{self, Fields, Value};
 use super::length::ticks_asked;
+use super::number::{Kind, Number, FLOAT, MONO_FLAG};
 use super::output::{counted, say};
 use super::progress::Progress;
 use super::recording::Recording;
 use super::records;
 use super::report::{self, plain_accepted};
-use super::song::Song;
+use super::song::{Song, TICK_FRAMES};
 use super::sound::Format;
 use super::stop::Stop;
 use super::stream::translated;
 use super::words::Words;
 use super::Command;
-use lampthistle::TICK_NUMBERS;
 
 pub const COMMAND: Command = Command {
     name: "compare",
     options: &["--ticks"],
-    flags: &["--once", "--json"],
+    flags: &["--once", FLOAT, MONO_FLAG, "--json"],
     help: "\
-lampthistle compare FILE [--once | --ticks N] [--plain | --json]
-lampthistle compare FILE STREAM [--once | --ticks N] [--plain | --json]
-lampthistle compare FILE SOUND.raw|SOUND.wav [--once | --ticks N] [--plain | --json]
+lampthistle compare FILE [--once | --ticks N] [--float [--mono]] [--plain | --json]
+lampthistle compare FILE STREAM [--once | --ticks N] [--float [--mono]] [--plain | --json]
+lampthistle compare FILE SOUND.raw|SOUND.wav [--once | --ticks N] [--float [--mono]] [--plain | --json]
 
 Plays the module and says that something else sounds the same, number by number, or where they first differ: the tick, and the frame in
 it and from the beginning. The other is
@@ -31,6 +31,7 @@ it and from the beginning. The other is
   with a STREAM, the board with that stream and the module's samples: all its ticks, or the first N;
   with a SOUND, a recording of 48,000 frames a second: all of it, or the first N ticks.
 --once takes the ticks until the song comes back to a place where it has been, as info tells.
+--float compares the frames as 32-bit floats, bit for bit, and with --mono one number a frame, as play writes them.
 --plain prints NUMBER PLACE COUNT, the count in ticks; a difference is told on standard error. --json prints one object.
 
 Example:
@@ -45,19 +46,19 @@ Exit status: 0 equal; 1 refused or different; 2 wrong use, or a file that cannot
 const TICKS: u32 = 1_000;
 
 /// What the player is compared with.
-enum Other<'a> {
-    Board(Board<'a>),
-    Recording(Recording),
+enum Other<'a, N> {
+    Board(Board<'a, N>),
+    Recording(Recording<N>),
 }
 
-impl Other<'_> {
+impl<N: Number> Other<'_, N> {
     /// Whether it may end within a tick.
     fn may_be_cut(&self) -> bool {
         matches!(self, Other::Recording(_))
     }
 
     /// The numbers beside a tick of the player that has so many; none after the last.
-    fn next(&mut self, numbers: usize) -> Result<Option<&[i16]>, Stop> {
+    fn next(&mut self, numbers: usize) -> Result<Option<&[N]>, Stop> {
         match self {
             Other::Board(board) => board.next(),
             Other::Recording(recording) => {
@@ -79,11 +80,20 @@ struct Outcome {
 struct Difference {
     frame: usize,
     side: &'static str,
-    player: Option<i16>,
-    other: Option<i16>,
+    player: Option<Value>,
+    other: Option<Value>,
 }
 
 fn run(words: &Words) -> Result<bool, Stop> {
+    let kind = Kind::asked(words)?;
+    match kind {
+        Kind::Whole => run_with::<i16>(words, kind),
+        Kind::Floats(_) => run_with::<f32>(words, kind),
+    }
+}
+
+/// Compares numbers of this kind.
+fn run_with<N: Number>(words: &Words, kind: Kind) -> Result<bool, Stop> {
     let second = match words.files.len() {
         0 | 1 => None,
         _ => Some(words.files(["FILE", "STREAM or SOUND"])?[1]),
@@ -96,40 +106,47 @@ fn run(words: &Words) -> Result<bool, Stop> {
             let [file] = input::read_all([first])?;
             let ticks = ticks_asked(words, &file)?;
             let stream = translated(&file, ticks.unwrap_or(TICKS))?;
-            with_board(words, &file, "board", &stream, ticks)
+            with_board::<N>(words, &file, kind, ("board", &stream), ticks)
         }
         Some((name, None)) => {
             let [file, stream] = input::read_all([first, name])?;
             let _ = board::judge(&stream, &file)?;
             let ticks = ticks_asked(words, &file)?;
-            with_board(words, &file, &stream.name, &stream.bytes, ticks)
+            let stream = (stream.name.as_str(), stream.bytes.as_slice());
+            with_board::<N>(words, &file, kind, stream, ticks)
         }
         Some((name, Some(format))) => {
             let [file] = input::read_all([first])?;
             let _ = file.judge()?;
-            with_recording(words, &file, Recording::open(name, format)?)
+            with_recording::<N>(words, &file, kind, Recording::open(name, format, kind)?)
         }
     }
 }
 
 /// The board plays an accepted stream of this name, all its ticks or the first of them.
-fn with_board(
+fn with_board<N: Number>(
     words: &Words,
     file: &Source,
-    name: &str,
-    stream: &[u8],
+    kind: Kind,
+    (name, stream): (&str, &[u8]),
     ticks: Option<u32>,
 ) -> Result<bool, Stop> {
     let all = records::ticks(stream);
     let ticks = ticks.map_or(all, |ticks| all.min(ticks.into()));
-    let board = Other::Board(Board::new(stream, &file.bytes));
-    tell(words, file, name, &compare(file, board, Some(ticks))?)
+    let board = Other::<N>::Board(Board::new(stream, &file.bytes, kind.sides()));
+    let outcome = compare(file, kind, board, Some(ticks))?;
+    tell(words, file, name, &outcome)
 }
 
-fn with_recording(words: &Words, file: &Source, recording: Recording) -> Result<bool, Stop> {
+fn with_recording<N: Number>(
+    words: &Words,
+    file: &Source,
+    kind: Kind,
+    recording: Recording<N>,
+) -> Result<bool, Stop> {
     let name = recording.name.clone();
     let ticks = ticks_asked(words, file)?.map(u64::from);
-    let outcome = compare(file, Other::Recording(recording), ticks)?;
+    let outcome = compare(file, kind, Other::Recording(recording), ticks)?;
     if outcome.frames == 0 && outcome.difference.is_none() {
         return Err(Stop::Cannot(format!("{name}: no frame to compare")));
     }
@@ -137,13 +154,18 @@ fn with_recording(words: &Words, file: &Source, recording: Recording) -> Result<
 }
 
 /// Plays the module beside the other, for so many ticks or until the other ends.
-fn compare(file: &Source, mut other: Other, all: Option<u64>) -> Result<Outcome, Stop> {
-    let mut song = Song::new(&file.bytes);
+fn compare<N: Number>(
+    file: &Source,
+    kind: Kind,
+    mut other: Other<N>,
+    all: Option<u64>,
+) -> Result<Outcome, Stop> {
+    let mut song = Song::<N>::for_sides(&file.bytes, kind.sides());
     let mut progress = Progress::new();
     let (mut ticks, mut frames) = (0, 0);
     let (mut difference, may_be_cut) = (None, other.may_be_cut());
     while difference.is_none() && all.is_none_or(|all| ticks < all) {
-        let played = song.next(TICK_NUMBERS);
+        let played = song.next(TICK_FRAMES);
         let mut player = played
             .map_err(|answer| file.refused(answer))?
             .unwrap_or(&[]);
@@ -154,10 +176,10 @@ fn compare(file: &Source, mut other: Other, all: Option<u64>) -> Result<Outcome,
         if cut {
             player = &player[..heard.len()];
         }
-        difference = first_difference(player, heard);
+        difference = first_difference(kind, player, heard);
         if difference.is_none() {
             ticks += u64::from(!cut);
-            frames += heard.len() as u64 / 2;
+            frames += (heard.len() / kind.sides()) as u64;
             progress.show("ticks", ticks, all.unwrap_or(ticks));
         }
     }
@@ -168,14 +190,18 @@ fn compare(file: &Source, mut other: Other, all: Option<u64>) -> Result<Outcome,
     })
 }
 
-fn first_difference(player: &[i16], other: &[i16]) -> Option<Difference> {
-    let longer = player.len().max(other.len());
-    let k = (0..longer).find(|&k| player.get(k) != other.get(k))?;
+fn first_difference<N: Number>(kind: Kind, player: &[N], other: &[N]) -> Option<Difference> {
+    let (longer, sides) = (player.len().max(other.len()), kind.sides());
+    let same = |k: usize| match (player.get(k), other.get(k)) {
+        (Some(one), Some(another)) => one.same(*another),
+        _ => false,
+    };
+    let k = (0..longer).find(|&k| !same(k))?;
     Some(Difference {
-        frame: k / 2,
-        side: ["left", "right"][k % 2],
-        player: player.get(k).copied(),
-        other: other.get(k).copied(),
+        frame: k / sides,
+        side: kind.side(k % sides),
+        player: player.get(k).map(|number| number.value()),
+        other: other.get(k).map(|number| number.value()),
     })
 }
 
@@ -190,8 +216,10 @@ fn tell(words: &Words, file: &Source, name: &str, outcome: &Outcome) -> Result<b
         say(&json::object(fields(file, name, outcome)))?;
     } else if let Some(found) = difference {
         let (own, frame, side) = (&file.name, found.frame, found.side);
-        let [player, other] = [found.player, found.other]
-            .map(|number| number.map_or("none".into(), |number| number.to_string()));
+        let [player, other] = [&found.player, &found.other].map(|number| match number {
+            Some(number) => number.bare(),
+            None => "none".into(),
+        });
         let from_begin = frames + frame as u64;
         Stop::Cannot(format!(
             "{own}: DIFFERENT: tick {ticks}, frame {frame} ({from_begin} from the beginning), {side}: player {player}, {name} {other}"
@@ -225,8 +253,8 @@ fn fields(file: &Source, name: &str, outcome: &Outcome) -> Fields {
             ("tick", outcome.ticks.into()),
             ("frame", found.frame.into()),
             ("side", found.side.into()),
-            ("player", found.player.into()),
-            ("other", found.other.into()),
+            ("player", found.player.clone().into()),
+            ("other", found.other.clone().into()),
         ]);
     }
     fields

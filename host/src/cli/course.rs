@@ -1,9 +1,9 @@
 //! How long a song is: it is played without its sound until it comes back to a place where it has been.
 use super::input::Source;
 use super::progress::Progress;
-use super::song::Song;
+use super::song::{Song, TICK_FRAMES};
 use super::stop::Stop;
-use lampthistle::{cell, State, TICK_NUMBERS};
+use lampthistle::{cell, State};
 use std::collections::HashSet;
 
 /// Ticks that are played at most: more than five hours at tempo 125.
@@ -32,7 +32,7 @@ pub fn course(source: &Source) -> Result<Option<Course>, Stop> {
     let mut progress = Progress::new();
     let mut frames = 0;
     for ticks in 1..=MOST_TICKS {
-        let next = song.next(TICK_NUMBERS);
+        let next = song.next(TICK_FRAMES);
         let numbers = next.map_err(|answer| source.refused(answer))?;
         frames += numbers.unwrap_or(&[]).len() as u64 / 2;
         progress.show("ticks at most", ticks, MOST_TICKS);

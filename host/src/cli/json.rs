@@ -6,6 +6,7 @@ pub enum Value {
     None,
     Truth(bool),
     Number(i128),
+    Float(f32),
     Text(String),
     List(Vec<Value>),
     Object(Fields),
@@ -86,6 +87,9 @@ impl fmt::Display for Value {
             Value::None => f.write_str("null"),
             Value::Truth(truth) => write!(f, "{truth}"),
             Value::Number(number) => write!(f, "{number}"),
+            // JSON has no name for what is no number.
+            Value::Float(number) if number.is_finite() => write!(f, "{number}"),
+            Value::Float(number) => write_text(f, &number.to_string()),
             Value::Text(text) => write_text(f, text),
             Value::List(values) => {
                 f.write_str("[")?;

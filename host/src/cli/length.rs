@@ -2,9 +2,10 @@
 use super::course::once;
 use super::input::{quoted, Source};
 use super::progress::Progress;
+use super::song::TICK_FRAMES;
 use super::stop::Stop;
 use super::words::Words;
-use lampthistle::{RATE, TICK_NUMBERS};
+use lampthistle::RATE;
 use std::ffi::OsStr;
 
 #[derive(Clone, Copy)]
@@ -64,16 +65,16 @@ impl Length {
     /// The frames at most.
     pub fn most(self) -> u64 {
         match self {
-            Length::Ticks(all) => u64::from(all) * (TICK_NUMBERS / 2) as u64,
+            Length::Ticks(all) => u64::from(all) * TICK_FRAMES as u64,
             Length::Frames(all) => all,
         }
     }
 
-    /// The numbers that the next tick may have after so many ticks and frames; none where all ticks are played.
+    /// The frames that the next tick may have after so many ticks and frames; none where all ticks are played.
     pub fn left(self, ticks: u64, frames: u64) -> Option<usize> {
         match self {
-            Length::Ticks(all) => (ticks < all.into()).then_some(TICK_NUMBERS),
-            Length::Frames(all) => Some((2 * (all - frames)).min(TICK_NUMBERS as u64) as usize),
+            Length::Ticks(all) => (ticks < all.into()).then_some(TICK_FRAMES),
+            Length::Frames(all) => Some((all - frames).min(TICK_FRAMES as u64) as usize),
         }
     }
 

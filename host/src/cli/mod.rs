@@ -10,6 +10,7 @@ mod judge;
 mod layout;
 mod length;
 mod notes;
+mod number;
 mod output;
 mod place;
 mod play;

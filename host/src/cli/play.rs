@@ -1,6 +1,7 @@
 //! play FILE: renders a module tick by tick, so that memory does not grow with the length.
 use super::input::{self, Source};
 use super::length::Length;
+use super::number::{Kind, Number, FLOAT, MONO_FLAG};
 use super::output::tell;
 use super::progress::Progress;
 use super::report::plain_accepted;
@@ -13,19 +14,22 @@ use super::{output, Command};
 pub const COMMAND: Command = Command {
     name: "play",
     options: &["--ticks", "--seconds", "--out"],
-    flags: &["--once"],
+    flags: &["--once", FLOAT, MONO_FLAG],
     help: "\
-lampthistle play FILE [--once | --ticks N | --seconds S] --out OUT [--plain]
+lampthistle play FILE [--once | --ticks N | --seconds S] [--float [--mono]] --out OUT [--plain]
 
 Renders the module from its beginning: 48,000 frames a second, two channels. OUT ends in .wav, or in .raw for bare 16-bit numbers, low
 byte first; - writes bare numbers to standard output. --once plays until the song comes back to a place where it has been, as info
 tells; --ticks N plays N ticks; --seconds S the whole ticks that fit into S seconds; without them it plays 60 seconds. A song that ends
 goes on from its beginning. OUT gets its name when it is whole; until then it is OUT.0.part.
+--float writes 32-bit floats instead, left / 32,768 and right / 32,768, each exact; with --mono one number a frame, the sum of both /
+65,536.
 --plain prints NUMBER PLACE COUNT, the count in ticks.
 
 Examples:
   lampthistle play song.mod --once --out song.wav
   lampthistle play song.mod --out - | aplay -f S16_LE -c 2 -r 48000
+  lampthistle play song.mod --once --float --mono --out song.wav
 
 Exit status: 0 accepted; 1 refused, and OUT is not written; 2 wrong use, or a file that cannot be read or written.
 ",
@@ -34,14 +38,19 @@ Exit status: 0 accepted; 1 refused, and OUT is not written; 2 wrong use, or a fi
 
 fn run(words: &Words) -> Result<bool, Stop> {
     let asked = Length::asked(words)?;
-    let out = words.needed("--out")?;
+    let (kind, out) = (Kind::asked(words)?, words.needed("--out")?);
     sound::format(out)?;
     let [source] = input::read_all(words.files(["FILE"])?)?;
     let _ = source.judge()?;
     let length = asked.length(&source)?;
-    check_room(out, length.most(), |room| frames_of(&source, length, room))?;
-    let mut sound = Sound::create(out, &[&source])?;
-    let (ticks, frames) = render(&source, length, &mut sound)?;
+    check_room(out, kind, length.most(), |room| {
+        frames_of(&source, length, room)
+    })?;
+    let mut sound = Sound::create(out, kind, &[&source])?;
+    let (ticks, frames) = match kind {
+        Kind::Whole => render::<i16>(&source, length, kind, &mut sound)?,
+        Kind::Floats(_) => render::<f32>(&source, length, kind, &mut sound)?,
+    };
     sound.finish()?;
     let text = if words.plain {
         plain_accepted(ticks)
@@ -52,8 +61,13 @@ fn run(words: &Words) -> Result<bool, Stop> {
 }
 
 /// Plays to the sound file; the ticks and frames played.
-fn render(source: &Source, length: Length, sound: &mut Sound) -> Result<(u64, u64), Stop> {
-    let mut song = Song::new(&source.bytes);
+fn render<N: Number>(
+    source: &Source,
+    length: Length,
+    kind: Kind,
+    sound: &mut Sound,
+) -> Result<(u64, u64), Stop> {
+    let mut song = Song::<N>::for_sides(&source.bytes, kind.sides());
     let mut progress = Progress::new();
     let (mut ticks, mut frames) = (0, 0);
     while let Some(most) = length.left(ticks, frames) {
@@ -63,7 +77,7 @@ fn render(source: &Source, length: Length, sound: &mut Sound) -> Result<(u64, u6
         };
         sound.write(numbers)?;
         ticks += 1;
-        frames += numbers.len() as u64 / 2;
+        frames += (numbers.len() / kind.sides()) as u64;
         length.show(&mut progress, ticks, frames);
     }
     Ok((ticks, frames))

@@ -1,35 +1,37 @@
 //! A recording of a module, read as it is compared: .wav, or bare numbers.
 use super::input::shown;
-use super::sound::Format;
+use super::number::{Kind, Number};
+use super::sound::{wav_kind, Format};
 use super::stop::Stop;
 use lampthistle::RATE;
 use std::ffi::OsStr;
 use std::fs::File;
 use std::io::{self, BufReader, Read};
 
-const FRAME_BYTES: usize = 4;
-
-pub struct Recording {
+pub struct Recording<N> {
     pub name: String,
+    kind: Kind,
     from: BufReader<File>,
     /// The bytes that a header says are still to come; none where it leaves that open.
     left: Option<u64>,
-    numbers: Vec<i16>,
+    numbers: Vec<N>,
 }
 
-impl Recording {
-    pub fn open(name: &OsStr, format: Format) -> Result<Recording, Stop> {
+impl<N: Number> Recording<N> {
+    /// A recording of numbers of this kind.
+    pub fn open(name: &OsStr, format: Format, kind: Kind) -> Result<Recording<N>, Stop> {
         let told = |e| Stop::Io(shown(name), e);
         let mut from = BufReader::new(File::open(name).map_err(told)?);
         let left = match format {
             Format::Raw => None,
-            Format::Wav => match wav_sound(&mut from).map_err(told)? {
+            Format::Wav => match wav_sound(&mut from, kind).map_err(told)? {
                 Ok(left) => left,
                 Err(what) => return Err(Stop::Cannot(format!("{}: {what}", shown(name)))),
             },
         };
         Ok(Recording {
             name: shown(name),
+            kind,
             from,
             left,
             numbers: Vec::new(),
@@ -37,8 +39,9 @@ impl Recording {
     }
 
     /// The next numbers, at most so many; fewer at the end, and none after it.
-    pub fn next(&mut self, most: usize) -> Result<&[i16], Stop> {
-        let asked = self.left.map_or(u64::MAX, |left| left).min(2 * most as u64);
+    pub fn next(&mut self, most: usize) -> Result<&[N], Stop> {
+        let asked = (N::BYTES * most) as u64;
+        let asked = self.left.map_or(asked, |left| left.min(asked));
         let mut bytes = Vec::with_capacity(asked as usize);
         let read = self.from.by_ref().take(asked).read_to_end(&mut bytes);
         read.map_err(|e| Stop::Io(self.name.clone(), e))?;
@@ -49,19 +52,16 @@ impl Recording {
                 return cannot(format!("is cut: {left} bytes of its sound are not there"));
             }
         }
-        if bytes.len() % FRAME_BYTES != 0 {
+        if bytes.len() % self.kind.frame_bytes() != 0 {
             return cannot("ends within a frame".into());
         }
-        let pairs = bytes.chunks_exact(2);
-        self.numbers = pairs
-            .map(|pair| i16::from_le_bytes([pair[0], pair[1]]))
-            .collect();
+        self.numbers = bytes.chunks_exact(N::BYTES).map(N::read).collect();
         Ok(&self.numbers)
     }
 }
 
 /// Reads a .wav file up to its sound, and gives the sound's bytes, none where they are left open; or says what is wrong.
-fn wav_sound(from: &mut impl Read) -> io::Result<Result<Option<u64>, String>> {
+fn wav_sound(from: &mut impl Read, kind: Kind) -> io::Result<Result<Option<u64>, String>> {
     const OPEN: u32 = u32::MAX;
     let mut start = [0; 12];
     from.read_exact(&mut start)?;
@@ -78,7 +78,7 @@ fn wav_sound(from: &mut impl Read) -> io::Result<Result<Option<u64>, String>> {
             b"fmt " => {
                 let mut about = Vec::new();
                 from.take(size.into()).read_to_end(&mut about)?;
-                right = wav_format(&about);
+                right = wav_format(&about, kind);
             }
             _ => skip(from, size.into())?,
         }
@@ -91,21 +91,27 @@ fn skip(from: &mut impl Read, bytes: u64) -> io::Result<()> {
     io::copy(&mut from.take(bytes), &mut io::sink()).map(|_| ())
 }
 
-/// Whether the numbers are as ours: 48,000 frames a second of two 16-bit numbers.
-fn wav_format(about: &[u8]) -> Result<(), String> {
-    /// Whole numbers; the second says so further on.
-    const WHOLE: [u16; 2] = [1, 0xFFFE];
+/// Whether the numbers are as ours: 48,000 frames a second of numbers of this kind.
+fn wav_format(about: &[u8], kind: Kind) -> Result<(), String> {
+    /// What the numbers are is said further on.
+    const ELSEWHERE: u16 = 0xFFFE;
     let word = |at: usize| {
         about
             .get(at..at + 2)
             .map_or(0, |b| u16::from_le_bytes([b[0], b[1]]))
     };
     let rate = u32::from(word(4)) + (u32::from(word(6)) << 16);
-    let (kind, channels, bits) = (word(0), word(2), word(14));
-    if WHOLE.contains(&kind) && (rate, channels, bits) == (RATE, 2, 16) {
+    let (found, sides, bits) = (word(0), word(2), word(14));
+    let own = (RATE, kind.sides() as u16, 8 * kind.number_bytes() as u16);
+    if [wav_kind(kind), ELSEWHERE].contains(&found) && (rate, sides, bits) == own {
         return Ok(());
     }
+    let expected = match kind {
+        Kind::Whole => "two whole 16-bit numbers",
+        Kind::Floats(1) => "one float",
+        Kind::Floats(_) => "two floats",
+    };
     Err(format!(
-        "is not {RATE} frames a second of two whole 16-bit numbers: {rate}, {channels} of {bits} bits, kind {kind}"
+        "is not {RATE} frames a second of {expected}: {rate}, {sides} of {bits} bits, kind {found}"
     ))
 }

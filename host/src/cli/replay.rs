@@ -1,15 +1,17 @@
 //! replay FILE SCRIPT: runs a trial again, records it, or checks its record.
 use super::input::{self, Source};
 use super::json::{self, Fields, Value};
+use super::number::Kind;
 use super::output::{self, counted, write_bytes};
 use super::report::{self, plain_accepted};
 use super::script::{self, Call, Results, Script};
+use super::song::TICK_FRAMES;
 use super::sound::{self, check_room, Sound};
 use super::stop::Stop;
 use super::trial::Trial;
 use super::words::Words;
 use super::{why, Command};
-use lampthistle::{Answer, Cause, State, TICK_NUMBERS};
+use lampthistle::{Answer, Cause, State};
 
 pub const COMMAND: Command = Command {
     name: "replay",
@@ -61,10 +63,10 @@ fn run(words: &Words) -> Result<bool, Stop> {
     let _ = source.judge()?;
     let sound = match out {
         Some(name) => {
-            check_room(name, most(&script), |room| {
+            check_room(name, Kind::Whole, most(&script), |room| {
                 frames_of(&source, &script, room)
             })?;
-            Some(Sound::create(name, &[&source, &text])?)
+            Some(Sound::create(name, Kind::Whole, &[&source, &text])?)
         }
         None => None,
     };
@@ -86,7 +88,7 @@ fn run(words: &Words) -> Result<bool, Stop> {
 
 /// The frames at most of all calls.
 fn most(script: &Script) -> u64 {
-    ticks(script) * (TICK_NUMBERS / 2) as u64
+    ticks(script) * TICK_FRAMES as u64
 }
 
 fn ticks(script: &Script) -> u64 {

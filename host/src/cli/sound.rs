@@ -1,5 +1,6 @@
 //! Sound files that are written: .wav, or bare numbers.
 use super::input::{shown, Source};
+use super::number::{Kind, Number};
 use super::output::check_terminal;
 use super::stop::Stop;
 use super::target::Target;
@@ -8,14 +9,10 @@ use std::ffi::OsStr;
 use std::io::{BufWriter, Seek, SeekFrom, Write};
 use std::path::Path;
 
-const FRAME_BYTES: u32 = 4;
-
-/// Bytes before a .wav file's sound, and how many of them its first length does not count.
-const WAV_START: u32 = 44;
+/// Bytes of a .wav file's start that its first length does not count.
 const WAV_UNCOUNTED: u32 = 8;
 
-/// The bytes of sound that a .wav file holds at most, and both its lengths as long as it is not finished: as far as the file goes.
-const WAV_MOST: u32 = u32::MAX - WAV_START;
+/// All lengths of a .wav file as long as it is not finished: as far as the file goes.
 const UNFINISHED: u32 = u32::MAX;
 
 /// How frames are written.
@@ -23,7 +20,7 @@ const UNFINISHED: u32 = u32::MAX;
 pub enum Format {
     /// A .wav file.
     Wav,
-    /// Bare 16-bit numbers, low byte first.
+    /// Bare numbers, low byte first.
     Raw,
 }
 
@@ -55,11 +52,12 @@ pub fn format(name: &OsStr) -> Result<Format, Stop> {
 /// the most that they can be is too much.
 pub fn check_room(
     name: &OsStr,
+    kind: Kind,
     most: u64,
     exact: impl FnOnce(u64) -> Result<u64, Stop>,
 ) -> Result<(), Stop> {
     let room = match format(name)? {
-        Format::Wav => u64::from(WAV_MOST / FRAME_BYTES),
+        Format::Wav => wav_room(kind),
         Format::Raw => return Ok(()),
     };
     if most <= room || exact(room)? <= room {
@@ -74,21 +72,23 @@ pub fn check_room(
 /// A sound file that is being written.
 pub struct Sound {
     format: Format,
+    kind: Kind,
     to: BufWriter<Target>,
     bytes: u64,
 }
 
 impl Sound {
-    pub fn create(name: &OsStr, sources: &[&Source]) -> Result<Sound, Stop> {
+    pub fn create(name: &OsStr, kind: Kind, sources: &[&Source]) -> Result<Sound, Stop> {
         let format = format(name)?;
         let target = Target::create(name, sources)?;
         let mut sound = Sound {
             format,
+            kind,
             to: BufWriter::with_capacity(1 << 16, target),
             bytes: 0,
         };
         if format == Format::Wav {
-            sound.put(&wav_start(UNFINISHED, UNFINISHED))?;
+            sound.put(&wav_start(kind, None))?;
         }
         Ok(sound)
     }
@@ -98,13 +98,12 @@ impl Sound {
         done.map_err(|e| Stop::Io(self.to.get_ref().name.clone(), e))
     }
 
-    pub fn write(&mut self, numbers: &[i16]) -> Result<(), Stop> {
-        for part in numbers.chunks(4_096) {
-            let bytes: Vec<u8> = part.iter().flat_map(|n| n.to_le_bytes()).collect();
-            self.put(&bytes)?;
-        }
-        self.bytes += 2 * numbers.len() as u64;
-        Ok(())
+    /// Numbers of the sound's kind.
+    pub fn write<N: Number>(&mut self, numbers: &[N]) -> Result<(), Stop> {
+        let mut bytes = Vec::with_capacity(N::BYTES * numbers.len());
+        numbers.iter().for_each(|number| number.put(&mut bytes));
+        self.bytes += bytes.len() as u64;
+        self.put(&bytes)
     }
 
     /// Writes what is left and, where it can go back, a .wav file's lengths.
@@ -112,29 +111,63 @@ impl Sound {
         let name = self.to.get_ref().name.clone();
         let told = |e| Stop::Io(name.clone(), e);
         if self.format == Format::Wav && self.to.get_ref().can_go_back() {
-            let bytes = self.bytes as u32;
+            let start = wav_start(self.kind, Some(self.bytes as u32));
             self.to.seek(SeekFrom::Start(0)).map_err(told)?;
-            self.put(&wav_start(bytes + WAV_START - WAV_UNCOUNTED, bytes))?;
+            self.put(&start)?;
         }
         let target = self.to.into_inner();
         target.map_err(|e| told(e.into_error()))?.finish()
     }
 }
 
-/// A .wav file up to its sound: two channels of 16-bit numbers, `bytes` of them, in a file of which `all` bytes are counted.
-fn wav_start(all: u32, bytes: u32) -> Vec<u8> {
-    let mut start = Vec::with_capacity(WAV_START as usize);
-    start.extend_from_slice(b"RIFF");
+/// The frames that a .wav file holds at most.
+fn wav_room(kind: Kind) -> u64 {
+    let start = wav_start(kind, None).len() as u64;
+    (u64::from(u32::MAX) - start) / kind.frame_bytes() as u64
+}
+
+/// A .wav file up to its sound, which has so many bytes where that is known. Of floats it also says how many frames there are.
+fn wav_start(kind: Kind, bytes: Option<u32>) -> Vec<u8> {
+    let (sides, frame_bytes) = (kind.sides() as u16, kind.frame_bytes() as u32);
+    let mut about = Vec::new();
+    about.extend_from_slice(&wav_kind(kind).to_le_bytes());
+    about.extend_from_slice(&sides.to_le_bytes());
+    about.extend_from_slice(&RATE.to_le_bytes());
+    about.extend_from_slice(&(RATE * frame_bytes).to_le_bytes());
+    about.extend_from_slice(&(frame_bytes as u16).to_le_bytes());
+    about.extend_from_slice(&(8 * kind.number_bytes() as u16).to_le_bytes());
+    let mut parts = Vec::new();
+    match kind {
+        Kind::Whole => put_part(&mut parts, b"fmt ", &about),
+        Kind::Floats(_) => {
+            // Nothing more to say: no bytes follow.
+            about.extend_from_slice(&0u16.to_le_bytes());
+            put_part(&mut parts, b"fmt ", &about);
+            let frames = bytes.map_or(UNFINISHED, |bytes| bytes / frame_bytes);
+            put_part(&mut parts, b"fact", &frames.to_le_bytes());
+        }
+    }
+    let before = b"RIFF....WAVE".len() + parts.len() + b"data....".len();
+    let all = bytes.map_or(UNFINISHED, |bytes| bytes + before as u32 - WAV_UNCOUNTED);
+    let mut start = b"RIFF".to_vec();
     start.extend_from_slice(&all.to_le_bytes());
-    start.extend_from_slice(b"WAVEfmt ");
-    start.extend_from_slice(&16u32.to_le_bytes());
-    start.extend_from_slice(&1u16.to_le_bytes());
-    start.extend_from_slice(&2u16.to_le_bytes());
-    start.extend_from_slice(&RATE.to_le_bytes());
-    start.extend_from_slice(&(RATE * FRAME_BYTES).to_le_bytes());
-    start.extend_from_slice(&(FRAME_BYTES as u16).to_le_bytes());
-    start.extend_from_slice(&16u16.to_le_bytes());
+    start.extend_from_slice(b"WAVE");
+    start.extend_from_slice(&parts);
     start.extend_from_slice(b"data");
-    start.extend_from_slice(&bytes.to_le_bytes());
+    start.extend_from_slice(&bytes.unwrap_or(UNFINISHED).to_le_bytes());
     start
+}
+
+/// What a .wav file calls its numbers: whole ones, or floats.
+pub fn wav_kind(kind: Kind) -> u16 {
+    match kind {
+        Kind::Whole => 1,
+        Kind::Floats(_) => 3,
+    }
+}
+
+fn put_part(parts: &mut Vec<u8>, name: &[u8; 4], bytes: &[u8]) {
+    parts.extend_from_slice(name);
+    parts.extend_from_slice(&(bytes.len() as u32).to_le_bytes());
+    parts.extend_from_slice(bytes);
 }

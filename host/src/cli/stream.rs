@@ -2,6 +2,7 @@
 use super::board::{self, Board};
 use super::input::{self, Source};
 use super::length::ticks_asked;
+use super::number::{Kind, Number, FLOAT, MONO_FLAG};
 use super::output::{self, check_terminal, counted, tell, write_bytes};
 use super::progress::Progress;
 use super::records;
@@ -33,11 +34,12 @@ Exit status: 0 accepted; 1 refused, and OUT is not written; 2 wrong use, or a fi
 pub const BOARD: Command = Command {
     name: "board",
     options: &["--out"],
-    flags: &[],
+    flags: &[FLOAT, MONO_FLAG],
     help: "\
-lampthistle board STREAM FILE --out OUT [--plain]
+lampthistle board STREAM FILE [--float [--mono]] --out OUT [--plain]
 
 Plays a tick stream of version 1 or 2 as the sound board does, with the samples of the module FILE. OUT as in play: .wav, .raw or -.
+--float writes 32-bit floats, and with --mono one number a frame, as in play.
 --plain prints NUMBER PLACE COUNT, the count in ticks.
 
 Example:
@@ -82,24 +84,17 @@ pub fn translated(source: &Source, ticks: u32) -> Result<Vec<u8>, Stop> {
 }
 
 fn run_board(words: &Words) -> Result<bool, Stop> {
-    let out = words.needed("--out")?;
+    let (kind, out) = (Kind::asked(words)?, words.needed("--out")?);
     sound::format(out)?;
     let [stream, file] = input::read_all(words.files(["STREAM", "FILE"])?)?;
     let _ = board::judge(&stream, &file)?;
-    let (ticks, frames) = (
-        records::ticks(&stream.bytes),
-        records::frames(&stream.bytes),
-    );
-    check_room(out, frames, |_| Ok(frames))?;
-    let mut sound = Sound::create(out, &[&stream, &file])?;
-    let mut board = Board::new(&stream.bytes, &file.bytes);
-    let (mut count, mut progress) = (0, Progress::new());
-    while let Some(numbers) = board.next()? {
-        sound.write(numbers)?;
-        count += 1;
-        progress.show("ticks", count, ticks);
-    }
-    drop(progress);
+    let frames = records::frames(&stream.bytes);
+    check_room(out, kind, frames, |_| Ok(frames))?;
+    let mut sound = Sound::create(out, kind, &[&stream, &file])?;
+    let count = match kind {
+        Kind::Whole => render::<i16>(&stream, &file, kind, &mut sound)?,
+        Kind::Floats(_) => render::<f32>(&stream, &file, kind, &mut sound)?,
+    };
     sound.finish()?;
     let text = if words.plain {
         plain_accepted(count)
@@ -107,4 +102,22 @@ fn run_board(words: &Words) -> Result<bool, Stop> {
         output::played(&stream.name, count, frames)
     };
     tell(words, &text).map(|()| true)
+}
+
+/// Plays an accepted stream to the sound file; the ticks played.
+fn render<N: Number>(
+    stream: &Source,
+    file: &Source,
+    kind: Kind,
+    sound: &mut Sound,
+) -> Result<u64, Stop> {
+    let ticks = records::ticks(&stream.bytes);
+    let mut board = Board::<N>::new(&stream.bytes, &file.bytes, kind.sides());
+    let (mut count, mut progress) = (0, Progress::new());
+    while let Some(numbers) = board.next()? {
+        sound.write(numbers)?;
+        count += 1;
+        progress.show("ticks", count, ticks);
+    }
+    Ok(count)
 }

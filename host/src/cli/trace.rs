@@ -6,12 +6,12 @@ use super::length::ticks_asked;
 use super::output::say;
 use super::records::{records, version, Command as Registers, Lengths, Record};
 use super::report::plain_accepted;
-use super::song::Song;
+use super::song::{Song, TICK_FRAMES};
 use super::stop::Stop;
 use super::stream::translated;
 use super::words::Words;
 use super::Command;
-use lampthistle::{CHANNELS, TICK_NUMBERS};
+use lampthistle::CHANNELS;
 
 pub const COMMAND: Command = Command {
     name: "trace",
@@ -115,7 +115,7 @@ fn is_stream(source: &Source) -> Result<bool, Stop> {
 /// The position and row of the next tick, which is played.
 fn step(song: &mut Song, source: &Source) -> Result<(u32, u32), Stop> {
     let place = (song.state.position(), song.state.row());
-    let played = song.next(TICK_NUMBERS);
+    let played = song.next(TICK_FRAMES);
     played.map_err(|answer| source.refused(answer))?;
     Ok(place)
 }

@@ -2,10 +2,10 @@
 use super::checksum::Checksum;
 use super::progress::Progress;
 use super::script::{Call, Results, Touch};
-use super::song::Song;
+use super::song::{Song, TICK_FRAMES};
 use super::sound::Sound;
 use super::stop::Stop;
-use lampthistle::{Answer, Cause, Refusal, State, CHANNELS, TICK_NUMBERS};
+use lampthistle::{Answer, Cause, Refusal, State, CHANNELS};
 
 pub struct Trial<'a> {
     song: Song<'a>,
@@ -75,7 +75,7 @@ impl<'a> Trial<'a> {
         };
         let enough = |frames| self.limit.is_some_and(|limit| frames > limit);
         while answer.count < u64::from(ticks) && !enough(self.frames) {
-            let numbers = match self.song.next(TICK_NUMBERS) {
+            let numbers = match self.song.next(TICK_FRAMES) {
                 Ok(numbers) => numbers.unwrap_or(&[]),
                 Err(refusal) => return Ok(refusal),
             };

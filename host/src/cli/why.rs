@@ -4,11 +4,11 @@ use super::json;
 use super::output::say;
 use super::progress::Progress;
 use super::report;
-use super::song::Song;
+use super::song::{Song, TICK_FRAMES};
 use super::stop::Stop;
 use super::words::Words;
 use super::Command;
-use lampthistle::{Answer, Cause, CHANNELS, TICK_NUMBERS};
+use lampthistle::{Answer, Cause, CHANNELS};
 
 pub const COMMAND: Command = Command {
     name: "why",
@@ -54,7 +54,7 @@ fn run(words: &Words) -> Result<bool, Stop> {
     ask(&song, &source, *channels.start())?;
     let mut progress = Progress::new();
     for played in 1..=ticks {
-        let next = song.next(TICK_NUMBERS);
+        let next = song.next(TICK_FRAMES);
         next.map_err(|answer| source.refused(answer))?;
         progress.show("ticks", played.into(), ticks.into());
     }

@@ -2,6 +2,7 @@
 mod commands;
 mod common;
 mod compares;
+mod floats;
 mod objects;
 mod outputs;
 mod robust;

@@ -76,8 +76,10 @@ fn api_has_every_cell() {
 fn api_says_the_header_s_limits() {
     let api = file("docs/API.md");
     assert!(api.contains(&format!("{} numbers of 32 bits", defined("STATE_CELLS"))));
-    let stack: u64 = defined("STACK_BYTES").parse().unwrap();
-    assert!(api.contains(&format!("{} KiB of stack", stack / 1_024)));
+    let kib = |limit: &str| defined(limit).parse::<u64>().unwrap() / 1_024;
+    let (stack, floats) = (kib("STACK_BYTES"), kib("FLOAT_STACK_BYTES"));
+    assert!(api.contains(&format!("{stack} KiB of stack")));
+    assert!(api.contains(&format!("one that plays floats {floats} KiB")));
 }
 
 #[test]

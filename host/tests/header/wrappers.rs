@@ -1,8 +1,8 @@
 //! The Rust wrappers' names, words and limits.
 use crate::parse::{constants, defined, entries, file, header, refusals, words, Entry};
 use lampthistle::{
-    same_cells, Answer, Cause, CHANNELS, MOST_TICKS, MOST_TOUCHES, RATE, STATE_CELLS, TICK_NUMBERS,
-    VERSION,
+    same_cells, Answer, Cause, CHANNELS, MONO, MOST_TICKS, MOST_TOUCHES, RATE, STATE_CELLS, STEREO,
+    TICK_NUMBERS, VERSION,
 };
 
 fn pairs(entries: Vec<Entry>) -> Vec<(String, u64)> {
@@ -68,6 +68,8 @@ fn limits_are_the_header_s() {
     assert_eq!(defined("TICK_NUMBERS"), TICK_NUMBERS.to_string());
     assert_eq!(defined("MOST_TICKS"), MOST_TICKS.to_string());
     assert_eq!(defined("MOST_TOUCHES"), MOST_TOUCHES.to_string());
+    assert_eq!(defined("MONO"), MONO.to_string());
+    assert_eq!(defined("STEREO"), STEREO.to_string());
 }
 
 #[test]

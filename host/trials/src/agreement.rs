@@ -51,7 +51,7 @@ pub fn compare_whole(seed: u64, frames: usize) -> Result<u64, String> {
 }
 
 /// The numbers of the first `ticks` ticks, or of as many as `most` takes; 0 where the file is refused.
-fn numbers_within(file: &[u8], ticks: u32, most: usize) -> usize {
+pub(crate) fn numbers_within(file: &[u8], ticks: u32, most: usize) -> usize {
     let mut state = lampthistle::fresh();
     let mut out = vec![0; most];
     let mut numbers = 0;
@@ -83,9 +83,14 @@ fn same(file: &[u8], ticks: u32, numbers: usize) -> Result<Answer, String> {
     Ok(played)
 }
 
+/// The most bytes of a stream of so many ticks.
+pub(crate) fn most_bytes(ticks: u32) -> usize {
+    START_BYTES + RECORD_BYTES * ticks as usize
+}
+
 /// Translates and plays the stream; the answer of the last call that was made.
 fn through_stream(file: &[u8], ticks: u32, out: &mut [i16]) -> Answer {
-    let mut room = vec![0; START_BYTES + RECORD_BYTES * ticks as usize];
+    let mut room = vec![0; most_bytes(ticks)];
     let translated = lampthistle::translate(file, ticks, &mut room);
     if !translated.is_accepted() {
         return translated;

@@ -2,6 +2,7 @@
 use second::generate::breaks::breaking;
 use second::generate::damage::any_file;
 use second::generate::ends::ends;
+use second::generate::floats::opposite;
 use second::generate::modules::{module, Size};
 use second::generate::quiet::hushed;
 use second::generate::tempos::{changing, steady};
@@ -11,7 +12,7 @@ use second::generate::Random;
 pub const UNEVEN: [u32; 3] = [255, 254, 33];
 
 /// A file of a seed: damaged ones, modules of every size, at one tempo throughout, with tempos in every place of a row, aimed at the ends
-/// of samples, with breaks on most rows, and with many zeros in their samples.
+/// of samples, with breaks on most rows, with many zeros in their samples, and with sides that are opposite.
 pub fn file(random: &mut Random, seed: u64) -> Vec<u8> {
     match random.below(100) {
         0..=9 => any_file(seed),
@@ -22,6 +23,7 @@ pub fn file(random: &mut Random, seed: u64) -> Vec<u8> {
         55..=69 => ends(seed),
         70..=74 => breaking(seed),
         75..=79 => hushed(seed),
+        80..=84 => opposite(seed),
         _ => module(seed, Size::Small),
     }
 }

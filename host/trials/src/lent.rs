@@ -12,9 +12,14 @@ pub struct Lent<T> {
 impl<T: From<u8> + Copy> Lent<T> {
     /// `length` cells to lend, filled with a pattern.
     pub fn new(length: usize) -> Lent<T> {
-        let cells = (0..length + 2 * GUARD)
-            .map(|i| T::from((i * 37 % 251) as u8))
-            .collect();
+        Lent::filled(length, |i| T::from((i * 37 % 251) as u8))
+    }
+}
+
+impl<T: Copy> Lent<T> {
+    /// `length` cells to lend, each filled by its place, guards counted.
+    pub fn filled(length: usize, with: impl Fn(usize) -> T) -> Lent<T> {
+        let cells = (0..length + 2 * GUARD).map(with).collect();
         Lent { cells }
     }
 

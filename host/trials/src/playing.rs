@@ -40,7 +40,7 @@ fn one(seed: u64, tally: &mut Tally) -> Result<(), String> {
     Ok(())
 }
 
-fn first_state(random: &mut Random, file: &[u8], accepted: bool) -> [u32; STATE_CELLS] {
+pub(crate) fn first_state(random: &mut Random, file: &[u8], accepted: bool) -> [u32; STATE_CELLS] {
     match random.below(10) {
         0 => [random.number() as u32; STATE_CELLS],
         1 | 2 if accepted => illegal_state(random.number(), file),
@@ -82,7 +82,7 @@ fn same_play(
 }
 
 /// The numbers that so many ticks take; 0 where they are refused.
-fn numbers_of(file: &[u8], cells: &[u32; STATE_CELLS], ticks: u32) -> usize {
+pub(crate) fn numbers_of(file: &[u8], cells: &[u32; STATE_CELLS], ticks: u32) -> usize {
     let mut cells = *cells;
     let tick = |_| second::trace_tick(file, &mut cells).map_or(0, |trace| trace.frames.len());
     (0..ticks).map(tick).sum()

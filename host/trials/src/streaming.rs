@@ -63,7 +63,7 @@ fn same_translation(
     Ok(whole)
 }
 
-fn any_stream(random: &mut Random, file: &[u8], translated: &[u8]) -> Vec<u8> {
+pub(crate) fn any_stream(random: &mut Random, file: &[u8], translated: &[u8]) -> Vec<u8> {
     let accepted = second::judge(file).number == 0;
     let seed = random.number();
     match random.below(1_000) {
@@ -101,17 +101,18 @@ fn empty_records(random: &mut Random) -> Vec<u8> {
     stream
 }
 
-fn same_stream(random: &mut Random, stream: &[u8], file: &[u8]) -> Result<u64, String> {
+/// The frames of all the stream's ticks, or of as many as `most` takes.
+pub(crate) fn lengths_within(stream: &[u8], most: usize) -> usize {
     let lengths = second::decode(stream).unwrap_or_default().lengths();
-    // All ticks, or as many as the largest buffer takes.
-    let exact = lengths
-        .iter()
-        .scan(0, |sum, frames| {
-            *sum += 2 * frames;
-            (*sum <= MOST_NUMBERS).then_some(*sum)
-        })
-        .last()
-        .unwrap_or(0);
+    let sums = lengths.iter().scan(0, |sum, frames| {
+        *sum += frames;
+        (*sum <= most).then_some(*sum)
+    });
+    sums.last().unwrap_or(0)
+}
+
+fn same_stream(random: &mut Random, stream: &[u8], file: &[u8]) -> Result<u64, String> {
+    let exact = 2 * lengths_within(stream, MOST_NUMBERS / 2);
     let mut ours = Lent::new(length(random, exact, MOST_NUMBERS));
     let mut other = ours.clone();
     let told = format!("{} bytes into {} numbers", stream.len(), ours.part().len());

@@ -12,9 +12,9 @@ const LOWEST_PERIOD: u32 = 113;
 const FIRST_INDEX: u32 = 300;
 
 /// A tick to mix: what it is, and the state before it.
-struct Case {
-    name: &'static str,
-    state: State,
+pub struct Case {
+    pub name: &'static str,
+    pub state: State,
 }
 
 /// Sample, period and index of a voice at volume 64.
@@ -42,7 +42,7 @@ fn before_end(period: u32, frames: u32) -> u32 {
     SAMPLE_BYTES as u32 - frames * second::growth(period) / 65_536
 }
 
-fn cases() -> [Case; 6] {
+pub fn cases() -> [Case; 6] {
     let four = |voice: &dyn Fn(u32, u32) -> Sounding| -> [Sounding; 4] {
         std::array::from_fn(|k| voice(k as u32, PERIODS[k]))
     };

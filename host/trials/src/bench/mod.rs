@@ -1,4 +1,5 @@
 //! The benchmarks, each a part of one table: medians of 101 runs.
+mod floats;
 mod judging;
 mod loops;
 mod mixing;
@@ -14,4 +15,5 @@ pub fn table() {
     shares::print();
     ticks::print();
     streaming::print();
+    floats::print();
 }
