@@ -13,6 +13,7 @@ mod state;
 mod stream;
 mod touch;
 mod voice;
+mod wave;
 mod work;
 
 use module::Module;
@@ -28,9 +29,10 @@ pub use voice::{growth, End, Voice};
 
 /// The numbers of a state where it is handed over: position, row, tick in row, delay, next
 /// position, next row, loop row, loop count, speed, tempo, remainder, clock, page; then for each
-/// channel latched sample, volume, period, target, slide memory, and of its voice sounding
-/// sample, period, volume, index, fraction, stopped (0 or 1).
-pub const STATE_CELLS: usize = 57;
+/// channel latched sample, volume, period, target, slide memory, of its vibrato and then of its
+/// tremolo x, y, place, form (0 sine, 1 ramp, 2 square), and of its voice sounding sample, period,
+/// volume, index, fraction, stopped (0 or 1).
+pub const STATE_CELLS: usize = 89;
 
 /// What a call answers: the refusal's number and place, or number and place 0 and the count
 /// of ticks played, bytes written or touches answered, or the cause of quiet.

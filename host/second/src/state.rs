@@ -1,12 +1,17 @@
-//! The player's state, its 57 cells and which states are legal.
+//! The player's state, its 89 cells and which states are legal.
 
 use crate::module::{legal_period, Module, LAST_SAMPLE, LOUDEST};
 use crate::voice::{Voice, CHANNELS};
+use crate::wave::Wave;
 use crate::{Answer, STATE_CELLS};
 
 /// Cells before the first channel's.
 pub const SONG_CELLS: usize = 13;
-pub const CHANNEL_CELLS: usize = 11;
+pub const CHANNEL_CELLS: usize = 19;
+/// Where a channel's waves and its voice stand among its cells.
+pub const VIBRATO: usize = 5;
+pub const TREMOLO: usize = 9;
+pub const VOICE: usize = 13;
 
 #[derive(Clone, Copy, Debug, PartialEq, Eq)]
 pub struct Channel {
@@ -15,6 +20,8 @@ pub struct Channel {
     pub period: u32,
     pub target: u32,
     pub memory: u32,
+    pub vibrato: Wave,
+    pub tremolo: Wave,
 }
 
 #[derive(Clone, Copy, Debug, PartialEq, Eq)]
@@ -46,6 +53,8 @@ impl State {
             period: 0,
             target: 0,
             memory: 0,
+            vibrato: Wave::fresh(),
+            tremolo: Wave::fresh(),
         };
         State {
             position: 0,
@@ -86,8 +95,8 @@ impl State {
         for channel in 0..CHANNELS {
             let own = &cells[SONG_CELLS + CHANNEL_CELLS * channel..];
             state.channels[channel] = read_channel(own);
-            state.voices[channel] = read_voice(&own[5..]);
-            flags_legal = flags_legal && own[10] <= 1;
+            state.voices[channel] = read_voice(&own[VOICE..]);
+            flags_legal = flags_legal && own[VOICE + 5] <= 1;
         }
         if flags_legal && state.legal(module) {
             Ok(state)
@@ -113,7 +122,7 @@ impl State {
         for channel in 0..CHANNELS {
             let own = &mut cells[SONG_CELLS + CHANNEL_CELLS * channel..];
             write_channel(&self.channels[channel], own);
-            write_voice(&self.voices[channel], &mut own[5..]);
+            write_voice(&self.voices[channel], &mut own[VOICE..]);
         }
     }
 
@@ -154,6 +163,8 @@ fn legal_channel(channel: &Channel) -> bool {
         && legal_period(channel.period)
         && legal_period(channel.target)
         && channel.memory <= 255
+        && channel.vibrato.legal()
+        && channel.tremolo.legal()
 }
 
 fn legal_voice(voice: &Voice, module: &Module) -> bool {
@@ -176,6 +187,17 @@ fn read_channel(cells: &[u32]) -> Channel {
         period: cells[2],
         target: cells[3],
         memory: cells[4],
+        vibrato: read_wave(&cells[VIBRATO..]),
+        tremolo: read_wave(&cells[TREMOLO..]),
+    }
+}
+
+fn read_wave(cells: &[u32]) -> Wave {
+    Wave {
+        x: cells[0],
+        y: cells[1],
+        place: cells[2],
+        form: cells[3],
     }
 }
 
@@ -196,6 +218,15 @@ fn write_channel(channel: &Channel, cells: &mut [u32]) {
     cells[2] = channel.period;
     cells[3] = channel.target;
     cells[4] = channel.memory;
+    write_wave(&channel.vibrato, &mut cells[VIBRATO..]);
+    write_wave(&channel.tremolo, &mut cells[TREMOLO..]);
+}
+
+fn write_wave(wave: &Wave, cells: &mut [u32]) {
+    cells[0] = wave.x;
+    cells[1] = wave.y;
+    cells[2] = wave.place;
+    cells[3] = wave.form;
 }
 
 fn write_voice(voice: &Voice, cells: &mut [u32]) {

@@ -1,8 +1,9 @@
-//! The work of one tick: the row's notes and effects, the next place, and the later ticks' slides.
+//! The work of one tick: the row's notes and effects, the next place, and the later ticks' slides
+//! and waves.
 
 use crate::length::{carried, tick_rest};
 use crate::module::{Cell, Module, HIGHEST_PERIOD, LOUDEST, LOWEST_PERIOD};
-use crate::state::State;
+use crate::state::{Channel, State};
 use crate::voice::CHANNELS;
 
 /// The 36 periods of the semitones.
@@ -11,6 +12,10 @@ const SEMITONES: [u32; 36] = [
     428, 404, 381, 360, 339, 320, 302, 285, 269, 254, 240, 226, //
     214, 202, 190, 180, 170, 160, 151, 143, 135, 127, 120, 113,
 ];
+
+/// What entry times depth is divided by.
+const VIBRATO_DIVISOR: u32 = 128;
+const TREMOLO_DIVISOR: u32 = 64;
 
 /// For each channel whose voice started in this tick, the offset asked, in steps of 256 bytes.
 pub type Starts = [Option<u32>; CHANNELS];
@@ -35,8 +40,10 @@ pub fn work(module: &Module, state: &mut State) -> Starts {
         if t > 0 {
             tick_effect(module, state, channel, &cell, t, &mut starts);
         }
-        state.voices[channel].volume = state.channels[channel].volume;
-        state.voices[channel].period = sounded_period(state.channels[channel].period, &cell, t);
+        let own = &mut state.channels[channel];
+        state.voices[channel].volume = sounded_volume(own, &cell, t);
+        state.voices[channel].period = sounded_period(own, &cell, t);
+        advance_waves(own, &cell, t);
     }
     state.remainder = carried(state.remainder, tempo_before, state.tempo);
     starts
@@ -80,11 +87,13 @@ fn note(module: &Module, state: &mut State, channel: usize, cell: &Cell, starts:
     if cell.period == 0 {
         return;
     }
-    if cell.effect == 0x3 {
+    if cell.effect == 0x3 || cell.effect == 0x5 {
         own.target = cell.period;
         return;
     }
     own.period = cell.period;
+    own.vibrato.place = 0;
+    own.tremolo.place = 0;
     let asked = if cell.effect == 0x9 {
         cell.parameter
     } else {
@@ -116,10 +125,14 @@ fn row_effect(
     let y = cell.parameter % 16;
     match (cell.effect, x) {
         (0x3, _) if cell.parameter != 0 => own.memory = cell.parameter,
+        (0x4, _) => own.vibrato.remember(x, y),
+        (0x7, _) => own.tremolo.remember(x, y),
         (0x9, _) if cell.period == 0 => restart(module, state, channel, cell.parameter, starts),
         (0xC, _) => own.volume = cell.parameter.min(LOUDEST),
         (0xE, 0x1) => own.period = period_down(own.period, y),
         (0xE, 0x2) => own.period = period_up(own.period, y),
+        (0xE, 0x4) => own.vibrato.choose(y),
+        (0xE, 0x7) => own.tremolo.choose(y),
         (0xE, 0x9) if y > 0 => restart(module, state, channel, 0, starts),
         (0xE, 0xA) => own.volume = volume_up(own.volume, y),
         (0xE, 0xB) => own.volume = volume_down(own.volume, y),
@@ -211,8 +224,11 @@ fn tick_effect(
         (0x1, _) => own.period = period_down(own.period, cell.parameter),
         (0x2, _) => own.period = period_up(own.period, cell.parameter),
         (0x3, _) => own.period = period_towards(own.period, own.target, own.memory),
-        (0xA, 0) => own.volume = volume_down(own.volume, y),
-        (0xA, _) => own.volume = volume_up(own.volume, x),
+        (0x5, _) => {
+            own.period = period_towards(own.period, own.target, own.memory);
+            own.volume = volume_slid(own.volume, x, y);
+        }
+        (0x6 | 0xA, _) => own.volume = volume_slid(own.volume, x, y),
         (0xE, 0x9) if y > 0 && t.is_multiple_of(y) => restart(module, state, channel, 0, starts),
         (0xE, 0xC) if t == y => own.volume = 0,
         _ => {}
@@ -252,11 +268,63 @@ fn volume_down(volume: u32, by: u32) -> u32 {
     volume.saturating_sub(by)
 }
 
-/// The period that the voice takes: the channel's, or that of the arpeggio's semitone.
-fn sounded_period(period: u32, cell: &Cell, t: u32) -> u32 {
-    if period == 0 || cell.effect != 0 {
-        return period;
+/// The volume after a slide up by x, or down by y if x is 0.
+fn volume_slid(volume: u32, x: u32, y: u32) -> u32 {
+    if x == 0 {
+        volume_down(volume, y)
+    } else {
+        volume_up(volume, x)
     }
+}
+
+/// Whether the cell's effect is at work on the vibrato.
+fn vibrates(cell: &Cell, t: u32) -> bool {
+    t > 0 && (cell.effect == 0x4 || cell.effect == 0x6)
+}
+
+/// Whether the cell's effect is at work on the tremolo.
+fn trembles(cell: &Cell, t: u32) -> bool {
+    t > 0 && cell.effect == 0x7
+}
+
+/// The volume that the voice takes: the channel's, or that moved by the tremolo.
+fn sounded_volume(own: &Channel, cell: &Cell, t: u32) -> u32 {
+    if trembles(cell, t) {
+        let offset = own.tremolo.offset(TREMOLO_DIVISOR);
+        own.volume.saturating_add_signed(offset).min(LOUDEST)
+    } else {
+        own.volume
+    }
+}
+
+/// The period that the voice takes: the channel's, that moved by the vibrato, or that of the
+/// arpeggio's semitone.
+fn sounded_period(own: &Channel, cell: &Cell, t: u32) -> u32 {
+    if own.period == 0 {
+        0
+    } else if vibrates(cell, t) {
+        let offset = own.vibrato.offset(VIBRATO_DIVISOR);
+        let period = own.period.saturating_add_signed(offset);
+        period.clamp(LOWEST_PERIOD, HIGHEST_PERIOD)
+    } else if cell.effect == 0 {
+        arpeggio(own.period, cell, t)
+    } else {
+        own.period
+    }
+}
+
+/// Moves the waves that were at work in this tick.
+fn advance_waves(own: &mut Channel, cell: &Cell, t: u32) {
+    if vibrates(cell, t) {
+        own.vibrato.advance();
+    }
+    if trembles(cell, t) {
+        own.tremolo.advance();
+    }
+}
+
+/// A period above 0, or that of the arpeggio's semitone.
+fn arpeggio(period: u32, cell: &Cell, t: u32) -> u32 {
     let semitones = match t % 3 {
         1 => cell.parameter / 16,
         2 => cell.parameter % 16,

@@ -97,6 +97,12 @@ pub fn with_effect(sample: u32, period: u32, code: u32) -> Cell {
     }
 }
 
+/// Gives a cell another effect, named in the same way.
+pub fn put_effect(cell: &mut Cell, code: u32) {
+    cell.effect = code / 256;
+    cell.parameter = code % 256;
+}
+
 pub fn sample(random: &mut Random, palette: &Palette) -> u32 {
     if random.chance(85) {
         random.pick(&palette.favourites)
@@ -115,19 +121,23 @@ pub fn period(random: &mut Random) -> u32 {
 
 /// An effect that works on the channel, or one that does nothing.
 pub fn effect(random: &mut Random) -> u32 {
-    match random.below(16) {
+    match random.below(21) {
         0 | 1 => arpeggio(random),
         2 => 0x100 + random.edge_or(&[0, 1, 2, 5, 255], 0, 255),
         3 => 0x200 + random.edge_or(&[0, 1, 2, 5, 255], 0, 255),
         4 | 5 => 0x300 + random.edge_or(&[0, 0, 1, 3, 10, 255], 0, 255),
         6 | 7 => 0x900 + random.edge_or(&[0, 0, 1, 1, 2, 255], 0, 4),
-        8 => 0xA00 + random.edge_or(&[0x00, 0x0F, 0xF0, 0x35, 0x01, 0x10, 0xFF], 0, 255),
+        8 => 0xA00 + volume_slide(random),
         9 => 0xC00 + random.edge_or(&[0, 63, 64, 65, 255], 0, 255),
         10 => 0xE90 + random.edge_or(&[0, 1, 2, 3, 15], 0, 15),
         11 => 0xEC0 + random.edge_or(&[0, 1, 2, 3, 15], 0, 15),
         12 => random.pick(&[0xE10, 0xE20]) + random.edge_or(&[0, 1, 15], 0, 15),
         13 => random.pick(&[0xEA0, 0xEB0]) + random.edge_or(&[0, 1, 15], 0, 15),
         14 => unlisted(random),
+        15 | 16 => wave(random),
+        17 => 0x500 + volume_slide(random),
+        18 => 0x600 + volume_slide(random),
+        19 => form(random),
         _ => 0xF00 + random.edge_or(&[32, 33, 125, 254, 255], 32, 255),
     }
 }
@@ -140,11 +150,32 @@ pub fn arpeggio(random: &mut Random) -> u32 {
     )
 }
 
+/// A parameter of A, 5 or 6.
+pub fn volume_slide(random: &mut Random) -> u32 {
+    random.edge_or(&[0x00, 0x0F, 0xF0, 0x35, 0x01, 0x10, 0xFF], 0, 255)
+}
+
+/// Vibrato or tremolo.
+pub fn wave(random: &mut Random) -> u32 {
+    random.pick(&[0x400, 0x700]) + wave_parameter(random)
+}
+
+/// A parameter of 4 or 7; either half is often 0, which is the old one.
+pub fn wave_parameter(random: &mut Random) -> u32 {
+    let x = random.edge_or(&[0, 0, 1, 15], 0, 15);
+    16 * x + random.edge_or(&[0, 0, 1, 15], 0, 15)
+}
+
+/// E4 or E7 with any y.
+pub fn form(random: &mut Random) -> u32 {
+    random.pick(&[0xE40, 0xE70]) + random.below(16)
+}
+
 fn unlisted(random: &mut Random) -> u32 {
     if random.chance(50) {
-        random.pick(&[0x400, 0x500, 0x600, 0x700, 0x800]) + random.below(256)
+        0x800 + random.below(256)
     } else {
-        let extended = [0xE00, 0xE30, 0xE40, 0xE50, 0xE70, 0xE80, 0xED0, 0xEF0];
+        let extended = [0xE00, 0xE30, 0xE50, 0xE80, 0xED0, 0xEF0];
         random.pick(&extended) + random.below(16)
     }
 }

@@ -16,6 +16,7 @@ pub mod states;
 pub mod streams;
 pub mod tempos;
 pub mod touches;
+pub mod waves;
 
 pub use random::Random;
 

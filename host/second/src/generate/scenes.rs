@@ -1,12 +1,12 @@
 //! Rows on which several rules meet: the combinations that are easily got wrong.
 
-use super::cells::{self, with_effect, Palette};
+use super::cells::{self, put_effect, with_effect, Palette};
 use super::Random;
 use crate::module::Cell;
 
 /// Fills a row with one of the scenes; channels that the scene leaves free stay as they are.
 pub fn fill(random: &mut Random, palette: &Palette, row: &mut [Cell]) {
-    match random.below(15) {
+    match random.below(18) {
         0 | 1 => nested_loops(random, row),
         2 | 3 => jump_and_break(random, palette, row),
         4 | 5 => many_delays(random, row),
@@ -18,13 +18,10 @@ pub fn fill(random: &mut Random, palette: &Palette, row: &mut [Cell]) {
         11 => slides_to_limits(random, row),
         12 => speeds(random, row),
         13 => numbers_alone(random, palette, row),
+        14 | 15 => waves(random, palette, row),
+        16 => delayed_waves(random, palette, row),
         _ => loop_and_break(random, palette, row),
     }
-}
-
-fn put_effect(cell: &mut Cell, code: u32) {
-    cell.effect = code / 256;
-    cell.parameter = code % 256;
 }
 
 /// E6 on several channels: begins, counts and jumps in one row.
@@ -114,7 +111,7 @@ fn restarts(random: &mut Random, row: &mut [Cell]) {
     }
 }
 
-/// 3 with and without a period, a parameter and a sample number.
+/// 3 and 5 with and without a period, a parameter and a sample number.
 fn slides_to_note(random: &mut Random, palette: &Palette, row: &mut [Cell]) {
     for cell in row {
         let sample = if random.chance(40) {
@@ -127,12 +124,38 @@ fn slides_to_note(random: &mut Random, palette: &Palette, row: &mut [Cell]) {
         } else {
             0
         };
-        *cell = with_effect(
-            sample,
-            period,
-            0x300 + random.pick(&[0, 0, 1, 7, 10, 100, 255]),
-        );
+        let code = if random.chance(70) {
+            0x300 + random.pick(&[0, 0, 1, 7, 10, 100, 255])
+        } else {
+            0x500 + cells::volume_slide(random)
+        };
+        *cell = with_effect(sample, period, code);
     }
+}
+
+/// Vibrato, tremolo, what runs them from memory, and their forms, with and without a note.
+fn waves(random: &mut Random, palette: &Palette, row: &mut [Cell]) {
+    for cell in row {
+        if random.chance(30) {
+            cell.sample = cells::sample(random, palette);
+        }
+        if random.chance(40) {
+            cell.period = random.pick(&[113, 114, 142, 143, 428, 826, 827, 855, 856]);
+        }
+        let code = match random.below(6) {
+            0..=2 => cells::wave(random),
+            3 | 4 => random.pick(&[0x500, 0x600]) + cells::volume_slide(random),
+            _ => cells::form(random),
+        };
+        put_effect(cell, code);
+    }
+}
+
+/// Waves that go on in each repetition under EE.
+fn delayed_waves(random: &mut Random, palette: &Palette, row: &mut [Cell]) {
+    waves(random, palette, row);
+    let channel = random.below(4) as usize;
+    put_effect(&mut row[channel], 0xEE0 + random.between(1, 3));
 }
 
 fn arpeggios(random: &mut Random, palette: &Palette, row: &mut [Cell]) {

@@ -2,8 +2,9 @@
 
 use super::{cells, Random};
 use crate::module::Module;
-use crate::state::{Channel, State, CHANNEL_CELLS, SONG_CELLS};
+use crate::state::{Channel, State, CHANNEL_CELLS, SONG_CELLS, TREMOLO, VIBRATO, VOICE};
 use crate::voice::Voice;
+use crate::wave::{Wave, LAST_MEMORY, PLACES, SQUARE};
 use crate::STATE_CELLS;
 
 /// The cells of a legal state; `file` is accepted.
@@ -34,9 +35,10 @@ pub fn illegal_state(seed: u64, file: &[u8]) -> [u32; STATE_CELLS] {
     let mut cells = legal_state(random.number(), file);
     let channel = random.below(4) as usize;
     let own = &mut cells[SONG_CELLS + CHANNEL_CELLS * channel..][..CHANNEL_CELLS];
-    match random.below(3) {
+    match random.below(4) {
         0 => break_channel(&mut random, own),
-        1 => break_voice(&mut random, &module, &mut own[5..]),
+        1 => break_wave(&mut random, own),
+        2 => break_voice(&mut random, &module, &mut own[VOICE..]),
         _ => break_song(&mut random, &mut cells, module.song_length),
     }
     cells
@@ -92,6 +94,17 @@ fn legal_channel(random: &mut Random) -> Channel {
         period: legal_period(random),
         target: legal_period(random),
         memory: random.edge_or(&[0, 1, 255], 0, 255),
+        vibrato: legal_wave(random),
+        tremolo: legal_wave(random),
+    }
+}
+
+fn legal_wave(random: &mut Random) -> Wave {
+    Wave {
+        x: random.edge_or(&[0, 1, LAST_MEMORY], 0, LAST_MEMORY),
+        y: random.edge_or(&[0, 1, LAST_MEMORY], 0, LAST_MEMORY),
+        place: random.edge_or(&[0, 16, 31, 32, 48, PLACES - 1], 0, PLACES - 1),
+        form: random.between(0, SQUARE),
     }
 }
 
@@ -165,6 +178,17 @@ fn break_channel(random: &mut Random, cells: &mut [u32]) {
         2 => cells[2] = bad_period(random),
         3 => cells[3] = bad_period(random),
         _ => cells[4] = past(random, 256),
+    }
+}
+
+/// Breaks one number of one of the waves.
+fn break_wave(random: &mut Random, cells: &mut [u32]) {
+    let wave = random.pick(&[VIBRATO, TREMOLO]);
+    match random.below(4) {
+        0 => cells[wave] = past(random, LAST_MEMORY + 1),
+        1 => cells[wave + 1] = past(random, LAST_MEMORY + 1),
+        2 => cells[wave + 2] = past(random, PLACES),
+        _ => cells[wave + 3] = past(random, SQUARE + 1),
     }
 }
 

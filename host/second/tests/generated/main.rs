@@ -10,3 +10,4 @@ mod playing;
 mod quiet;
 mod states;
 mod streams;
+mod waves;

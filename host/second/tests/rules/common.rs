@@ -23,12 +23,20 @@ pub const VOLUME: usize = 1;
 pub const PERIOD: usize = 2;
 pub const TARGET: usize = 3;
 pub const MEMORY: usize = 4;
-pub const SOUNDING: usize = 5;
-pub const VOICE_PERIOD: usize = 6;
-pub const VOICE_VOLUME: usize = 7;
-pub const INDEX: usize = 8;
-pub const FRACTION: usize = 9;
-pub const STOPPED: usize = 10;
+pub const VIBRATO_X: usize = 5;
+pub const VIBRATO_Y: usize = 6;
+pub const VIBRATO_PLACE: usize = 7;
+pub const VIBRATO_FORM: usize = 8;
+pub const TREMOLO_X: usize = 9;
+pub const TREMOLO_Y: usize = 10;
+pub const TREMOLO_PLACE: usize = 11;
+pub const TREMOLO_FORM: usize = 12;
+pub const SOUNDING: usize = 13;
+pub const VOICE_PERIOD: usize = 14;
+pub const VOICE_VOLUME: usize = 15;
+pub const INDEX: usize = 16;
+pub const FRACTION: usize = 17;
+pub const STOPPED: usize = 18;
 
 pub const ACCEPTED: Answer = Answer {
     number: 0,
@@ -56,7 +64,7 @@ pub fn played(count: u64) -> Answer {
 
 /// The place of a channel's cell in the state, channels counted from 1 as in the paper.
 pub fn at(channel: usize, cell: usize) -> usize {
-    13 + 11 * (channel - 1) + cell
+    13 + 19 * (channel - 1) + cell
 }
 
 /// Sample 1: 20 words of 100, volume 40. Sample 2: 300 words of 50, looped from word 100 to
@@ -134,7 +142,7 @@ pub fn periods(draft: &Draft, ticks: usize) -> Vec<u32> {
         .collect()
 }
 
-/// The volumes of channel 1, tick by tick.
+/// The sounded volumes of channel 1, tick by tick.
 pub fn volumes(draft: &Draft, ticks: usize) -> Vec<u32> {
     traces(draft, ticks)
         .iter()

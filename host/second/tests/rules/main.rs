@@ -12,3 +12,4 @@ mod notes;
 mod quiet;
 mod streams;
 mod voices;
+mod waves;

@@ -54,11 +54,8 @@ fn a_sample_number_alone_latches_and_sets_the_volume() {
 fn a_sample_number_beside_3_latches_and_sets_the_volume() {
     let draft = rows(&[&[(2, 428, 0xF01)], &[(1, 300, 0x310)]]);
     let cells = state_after(&draft, 2);
-    assert_eq!(
-        cells[at(1, LATCHED)..=at(1, SOUNDING)],
-        [1, 40, 428, 300, 16, 2]
-    );
-    assert_eq!(cells[at(1, STOPPED)], 0);
+    assert_eq!(cells[at(1, LATCHED)..=at(1, MEMORY)], [1, 40, 428, 300, 16]);
+    assert_eq!([cells[at(1, SOUNDING)], cells[at(1, STOPPED)]], [2, 0]);
     assert!(!commands(&draft, 2)[1].start);
 }
 
@@ -129,10 +126,7 @@ fn e9_starts_the_sounding_sample_at_u_0_too() {
 #[test]
 fn unlisted_effects_do_nothing_but_the_note_starts() {
     let plain = commands(&row(&[(1, 428, 0)]), 12);
-    let unlisted = [
-        0x4FF, 0x5FF, 0x6FF, 0x7FF, 0x8FF, 0xE0F, 0xE3F, 0xE4F, 0xE5F, 0xE7F, 0xE8F, 0xED3, 0xEFF,
-    ];
-    for code in unlisted {
+    for code in [0x8FF, 0xE0F, 0xE3F, 0xE5F, 0xE8F, 0xED3, 0xEFF] {
         assert_eq!(
             commands(&row(&[(1, 428, code)]), 12),
             plain,
