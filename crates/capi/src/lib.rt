@@ -20,7 +20,7 @@ use player::Reply;
 use player::Why;
 
 // Major times 1,000,000, plus minor times 1,000, plus patch.
-const VERSION: u32 = 3000;
+const VERSION: u32 = 4000;
 
 // An answer's cells.
 const ANSWER_CELLS: usize = 3;

@@ -16,11 +16,14 @@ use Rattle.reader.specs.Judge.{cellLines, restLines, verdict, tagged, badLength
 use Rattle.reader.specs.Cells.{cellFrom, cellAt}
 use Rattle.reader.specs.Samples.{extentOf}
 use Rattle.effects.specs.declared.Channel.{Channel}
-use Rattle.effects.specs.Notes.{isNote, isTarget}
-use Rattle.effects.specs.Slides.{lowered, towards}
-use Rattle.effects.specs.Sounded.{periods, above, semitones, arpeggio, transposed, soundedPeriod, soundedVolume}
-use Rattle.effects.specs.Work.{givenPeriod, rowPeriod, rowChannel, tickVolume, tickPeriod, tickChannel, worked}
-use Rattle.effects.specs.Commands.{voicedBy, voiced}
+use Rattle.effects.specs.Notes.{isPortamento, isNote}
+use Rattle.motion.specs.Slides.{lowered, towards}
+use Rattle.motion.specs.Waves.{freshWave, moved}
+use Rattle.motion.specs.Legal.{isFreshWave, legalWave}
+use Rattle.effects.specs.Sounded.{periods, above, semitones, arpeggio, transposed, arpeggiated, soundedPeriod, soundedVolume}
+use Rattle.effects.specs.Work.{givenPeriod, rowPeriod, rowChannel, slidesVolume, tickVolume, tickPeriod, tickChannel, worked}
+use Rattle.effects.specs.Wavering.{vibrates, trembles}
+use Rattle.effects.specs.Commands.{afterSound, voicedBy, voiced}
 use Rattle.effects.specs.Legal.{freshChannel, isFresh, legalChannel}
 use Rattle.sequencer.specs.Row.{rowSpeed, rowDelay, rowLoop, rowMove, rowTime, rowFlow, flowFrom, flowThrough}
 use Rattle.sequencer.specs.Songs.{freshSong, freshSounding, nextOf, courseBy, songBy, songWork, voicedOn, allVoiced, nextTick, timeTo, courseTo, deskAfter, advanced, tickWith, tickOf}
@@ -77,7 +80,7 @@ cell effect param = record { sample = 0; period = 0; effect = effect; param = pa
 
 -- a channel with a volume and period 428
 abbrev pub channel : ℕ → Channel
-channel volume = record { latched = 0; volume = volume; period = 428; target = 0; memory = 0 }
+channel volume = record { latched = 0; volume = volume; period = 428; target = 0; memory = 0; vibrato = freshWave; tremolo = freshWave }
 
 -- a voice on sample 1 at an index and a fraction, with volume 64 and period 428, and the command that leaves it there
 abbrev pub voice : ℕ → ℕ → Voice
@@ -135,7 +138,7 @@ pub record Cases : Type 0 where
 
 -- ---- the claim
 clock3-legal : legalState module1 clock3 ≡ true
-unfolding header row bytes file clock3 every each all allFrom freshSong legalPlace legalLoop legalCourse legalTime legalOrFresh legalAt legalSong legalChannel isFresh legalIndex legalVoice isFreshVoice legalUsedVoice legalVoices freshState legalState
+unfolding header row bytes file clock3 every each all allFrom freshSong legalPlace legalLoop legalCourse legalTime legalOrFresh legalAt legalSong legalChannel isFresh legalWave isFreshWave legalIndex legalVoice isFreshVoice legalUsedVoice legalVoices freshState legalState
 clock3-legal = refl
 
 touch-number : (made : ℕ) → touchMade made ≡ refusing (λ number place. reply (refused number place) clock3) (reply (accepted 0) (withSong clock3 (touchedAt (clock3 .song) 0))) (touchLines (songLength module1) (clock3 .song .desk) 0 made 0) .answer .number
@@ -144,7 +147,7 @@ touch-number made = ap (λ (r : Reply). r .answer .number) (touch-judged file fi
 pub cases : Cases
 unfolding header row bytes file left clock3 refusing each partly
     total largest patternsOf samplePlace cellFrom cellAt extentOf
-    isNote isTarget lowered towards periods above semitones arpeggio transposed soundedPeriod soundedVolume givenPeriod rowPeriod rowChannel tickVolume tickPeriod tickChannel worked voicedBy voiced
+    isPortamento isNote vibrates trembles moved lowered towards periods above semitones arpeggio transposed arpeggiated soundedPeriod soundedVolume givenPeriod rowPeriod rowChannel slidesVolume tickVolume tickPeriod tickChannel worked afterSound voicedBy voiced
     rowSpeed rowDelay rowLoop rowMove rowTime rowFlow flowFrom flowThrough freshSong nextOf courseBy songBy songWork voicedOn allVoiced nextTick timeTo courseTo deskAfter advanced tickWith tickOf songAfter
     arriveAt silentOf signedOf readAt givesOf growthOf carried stepOf toldOf stepsOf sideOf sumOf scaleOf framesFrom mixed carriedAt lengthAt begins tickLength frames ageOf
 cases =

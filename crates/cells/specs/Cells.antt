@@ -8,6 +8,7 @@ use lib.Dec.{eqb, ltb}
 use Rattle.laws.specs.Ranges.{each}
 use Rattle.common.specs.Bytes.{bit}
 use Rattle.common.specs.Limits.{width, sampleNumbers}
+use Rattle.motion.specs.declared.Wave.{Wave}
 use Rattle.effects.specs.declared.Channel.{Channel}
 use Rattle.effects.specs.Legal.{freshChannel}
 use Rattle.sequencer.specs.declared.Song.{Song}
@@ -20,9 +21,17 @@ use Rattle.player.specs.declared.State.{State}
 abbrev pub songCellCount : ℕ
 songCellCount = 13
 
--- a channel's own cells
+-- a wave's cells
+abbrev pub waveCellCount : ℕ
+waveCellCount = 4
+
+-- a channel's plain numbers
+abbrev pub plainCellCount : ℕ
+plainCellCount = 5
+
+-- its own cells, with two waves
 abbrev pub ownCellCount : ℕ
-ownCellCount = 5
+ownCellCount = plainCellCount + (waveCellCount + waveCellCount)
 
 -- its voice's
 abbrev pub voiceCellCount : ℕ
@@ -59,9 +68,17 @@ songCells s remainder =
     ∷ s .desk .page
     ∷ []
 
+-- x, y, place, form
+abbrev pub waveCells : Wave → List ℕ
+waveCells w = w .x ∷ w .y ∷ w .place ∷ w .form ∷ []
+
 -- latched sample, volume, period, target, memory
+abbrev pub plainCells : Channel → List ℕ
+plainCells c = c .latched ∷ c .volume ∷ c .period ∷ c .target ∷ c .memory ∷ []
+
+-- then vibrato and tremolo
 abbrev pub ownCells : Channel → List ℕ
-ownCells c = c .latched ∷ c .volume ∷ c .period ∷ c .target ∷ c .memory ∷ []
+ownCells c = plainCells c ++ (waveCells (c .vibrato) ++ waveCells (c .tremolo))
 
 -- sample, period, volume, index, fraction, stopped
 abbrev pub voiceCells : Voice → List ℕ
@@ -84,10 +101,22 @@ unfoldable pub stateCells : State → List ℕ
 stateCells s = songCells (s .song) (s .remainder) ++ joined (cellsAt (s .song .channels) (s .voices)) width
 
 -- ---- from cells
+-- a wave, from a place on
+abbrev pub waveOf : List ℕ → ℕ → Wave
+waveOf l at = record { x = getD l at 0; y = getD l (at + 1) 0; place = getD l (at + 2) 0; form = getD l (at + 3) 0 }
+
 -- a channel's own numbers, from a place on
 abbrev pub channelOf : List ℕ → ℕ → Channel
 channelOf l at =
-    record { latched = getD l at 0; volume = getD l (at + 1) 0; period = getD l (at + 2) 0; target = getD l (at + 3) 0; memory = getD l (at + 4) 0 }
+    record {
+      latched = getD l at 0;
+      volume = getD l (at + 1) 0;
+      period = getD l (at + 2) 0;
+      target = getD l (at + 3) 0;
+      memory = getD l (at + 4) 0;
+      vibrato = waveOf l (at + plainCellCount);
+      tremolo = waveOf l (at + plainCellCount + waveCellCount);
+    }
 
 -- a voice's sample; a flag above 1 is no flag, and gives a sample number that no legal state has
 unfoldable pub sampleBy : ℕ → ℕ → ℕ

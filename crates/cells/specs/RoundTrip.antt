@@ -13,19 +13,27 @@ use Rattle.laws.specs.Each.{each-by, getD-each}
 use Rattle.laws.specs.Positions.{at-offset, at-position, drop-past}
 use Rattle.common.specs.Bytes.{bit}
 use Rattle.common.specs.Limits.{width}
+use Rattle.motion.specs.declared.Wave.{Wave}
 use Rattle.effects.specs.declared.Channel.{Channel}
 use Rattle.effects.specs.Legal.{freshChannel}
 use Rattle.voice.specs.declared.Voice.{Voice}
 use Rattle.voice.specs.Frames.{blank}
 use Rattle.player.specs.declared.State.{State}
-use Rattle.cells.specs.Cells.{songCellCount, ownCellCount, voiceCellCount, channelCellCount, cellCount, channelPlace, songCells, ownCells, voiceCells, cellsAt, joined, stateCells, channelOf, sampleBy, voiceOf, remainderPlace, songOf, stateOf}
+use Rattle.cells.specs.Cells.{songCellCount, plainCellCount, waveCellCount, ownCellCount, voiceCellCount, channelCellCount, cellCount, channelPlace, songCells, plainCells, waveCells, ownCells, voiceCells, cellsAt, joined, stateCells, waveOf, channelOf, sampleBy, voiceOf, remainderPlace, songOf, stateOf}
 use Rattle.cells.specs.Joined.{partAt, joined-parts, joined-at}
 use Rattle.laws.specs.Ranges.{each}
 use Rattle.common.specs.ByteLaws.{bit-back, bit-most}
 
 -- ---- a channel's cells, read
+wave-back : (l : List ℕ) (at : ℕ) (w : Wave) (rest : List ℕ) → drop at l ≡ waveCells w ++ rest → waveOf l at ≡ w
+wave-back l at w rest e = simp (at-position l at _ e, at-offset l at _ e)
+
 channel-back : (l : List ℕ) (at : ℕ) (c : Channel) (rest : List ℕ) → drop at l ≡ ownCells c ++ rest → channelOf l at ≡ c
-channel-back l at c rest e = simp (at-position l at _ e, at-offset l at _ e)
+channel-back l at c rest e =
+    let vibrato = drop-past l at (plainCells c) _ e in
+    let tremolo = drop-past l (at + plainCellCount) (waveCells (c .vibrato)) _ vibrato in
+    rw (wave-back l (at + plainCellCount) (c .vibrato) _ vibrato, wave-back l (at + plainCellCount + waveCellCount) (c .tremolo) _ tremolo)
+    (simp (at-position l at _ e, at-offset l at _ e))
 
 voice-back : (l : List ℕ) (at : ℕ) (v : Voice) (rest : List ℕ) → drop at l ≡ voiceCells v ++ rest → voiceOf l at ≡ v
 unfolding sampleBy
@@ -79,9 +87,24 @@ song-again : (l : List ℕ) (cs : List Channel) → songCellCount ≤ length l �
 unfolding each
 song-again l cs h = rw (part-is l 0 songCellCount h)
 
-channel-again : (l : List ℕ) (at : ℕ) → at + ownCellCount ≤ length l → ownCells (channelOf l at) ≡ take ownCellCount (drop at l)
+wave-again : (l : List ℕ) (at : ℕ) → at + waveCellCount ≤ length l → waveCells (waveOf l at) ≡ take waveCellCount (drop at l)
 unfolding each
-channel-again l at h = rw (part-is l at ownCellCount h, add-zero)
+wave-again l at h = rw (part-is l at waveCellCount h, add-zero)
+
+plain-again : (l : List ℕ) (at : ℕ) → at + plainCellCount ≤ length l → plainCells (channelOf l at) ≡ take plainCellCount (drop at l)
+unfolding each
+plain-again l at h = rw (part-is l at plainCellCount h, add-zero)
+
+channel-again : (l : List ℕ) (at : ℕ) → at + ownCellCount ≤ length l → ownCells (channelOf l at) ≡ take ownCellCount (drop at l)
+channel-again l at h =
+    rw (
+      take-add plainCellCount (waveCellCount + waveCellCount) (drop at l),
+      drop-drop plainCellCount at l,
+      take-add waveCellCount waveCellCount (drop (at + plainCellCount) l),
+      drop-drop waveCellCount (at + plainCellCount) l,
+    )
+    (ap₂ _++_ (plain-again l at (omega arith))
+    (ap₂ _++_ (wave-again l (at + plainCellCount) (omega arith)) (wave-again l (at + plainCellCount + waveCellCount) (omega arith))))
 
 voice-again : (l : List ℕ) (at : ℕ) → at + voiceCellCount ≤ length l → getD l (at + 5) 0 ≤ 1 → voiceCells (voiceOf l at) ≡ take voiceCellCount (drop at l)
 unfolding each sampleBy

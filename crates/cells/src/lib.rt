@@ -5,10 +5,11 @@ ghost use lib.ListN.{length};
 ghost use lib.Seq.{sets};
 ghost use Rattle.laws.specs.Ranges.{each};
 ghost use Rattle.common.specs.Limits.{width};
-ghost use Rattle.cells.specs.Cells.{ownCellCount, voiceCellCount, channelCellCount, cellCount, channelPlace, songCells, channelCells, stateCells, channelOf, sampleBy, voiceOf, songOf, stateOf};
+ghost use Rattle.cells.specs.Cells.{waveCellCount, ownCellCount, voiceCellCount, channelCellCount, cellCount, channelPlace, songCells, channelCells, stateCells, waveOf, channelOf, sampleBy, voiceOf, songOf, stateOf};
 use common::limits::SAMPLE_NUMBERS;
 use common::limits::WIDTH;
 use effects::Channel;
+use motion::Wave;
 use player::State;
 use sequencer::Course;
 use sequencer::Desk;
@@ -18,10 +19,14 @@ use sequencer::Song;
 use sequencer::Time;
 use voice::Voice;
 
-// A song's cells with the remainder; a channel's own, its voice's, and both.
+// A song's cells with the remainder; a channel's plain numbers, a wave's, a channel's own with two waves, its voice's, and both.
 const SONG_CELLS: usize = 13;
 
-const OWN_CELLS: usize = 5;
+const PLAIN_CELLS: usize = 5;
+
+const WAVE_CELLS: usize = 4;
+
+const OWN_CELLS: usize = PLAIN_CELLS + WAVE_CELLS + WAVE_CELLS;
 
 const VOICE_CELLS: usize = 6;
 
@@ -79,6 +84,14 @@ fn put_channel(channel: Channel, voice: Voice, at: usize, cells: &mut [u32; CELL
         channel.period,
         channel.target,
         channel.memory,
+        channel.vibrato.x,
+        channel.vibrato.y,
+        channel.vibrato.place,
+        channel.vibrato.form,
+        channel.tremolo.x,
+        channel.tremolo.y,
+        channel.tremolo.place,
+        channel.tremolo.form,
         voice.sample,
         voice.period,
         voice.volume,
@@ -109,6 +122,19 @@ pub fn cells_of(state: State) -> [u32; CELLS]
     cells
 }
 
+// The wave whose cells begin at a place.
+fn wave_of(cells: &[u32; CELLS], at: usize) -> Wave
+    requires { ⌜ at + waveCellCount ≤ cellCount ⌝ }
+    ensures { λ r. ⌜ r ≡ waveOf (now (cells .entry)) at ⌝ }
+{
+    Wave {
+        x: cells[at],
+        y: cells[at + 1],
+        place: cells[at + 2],
+        form: cells[at + 3],
+    }
+}
+
 // The channel whose own cells begin at a place.
 fn channel_of(cells: &[u32; CELLS], at: usize) -> Channel
     requires { ⌜ at + ownCellCount ≤ cellCount ⌝ }
@@ -120,6 +146,8 @@ fn channel_of(cells: &[u32; CELLS], at: usize) -> Channel
         period: cells[at + 2],
         target: cells[at + 3],
         memory: cells[at + 4],
+        vibrato: wave_of(cells, at + PLAIN_CELLS),
+        tremolo: wave_of(cells, at + PLAIN_CELLS + WAVE_CELLS),
     }
 }
 

@@ -1,12 +1,13 @@
 -- A channel's work keeps it legal, and its command is legal, for any channel of an accepted file.
 -- Assumes nothing.
-use Prim.Native.Nat.{ℕ, zero, suc, _+_, _-_, _≤_, min, max}
+use Prim.Native.Nat.{ℕ, suc, _+_, _-_, _/_, _%_, _≤_, _<_, min}
 use mathlib.Core.Path.{_≡_, refl, subst}
 use mathlib.Core.Bool.{Bool, true, false, cond}
+use mathlib.Core.List.{List}
 use native.Mathlib.Omega.{arith}
 use borrow.Author.Tests.{eqb-false}
 use borrow.Author.Needs.{zero≤}
-use lib.Dec.{T, eqb, lit≤}
+use lib.Dec.{T, eqb, lit<}
 use lib.ListN.{getD}
 use Rattle.laws.specs.Choice.{either}
 use Rattle.laws.specs.Numbers.{cond-le}
@@ -15,56 +16,27 @@ use Rattle.common.specs.Limits.{loudest, leastPeriod, greatestPeriod, lastByte,
 use Rattle.laws.specs.Ranges.{every}
 use Rattle.common.specs.LimitFacts.{between-has, LegalPeriod, cell-period-legal}
 use Rattle.common.specs.LimitFacts.LegalPeriod.{silent, sounding}
-use Rattle.effects.specs.LegalFacts.{LegalChannel}
+use Rattle.motion.specs.Waves.{lastMemory, wholeWave}
+use Rattle.motion.specs.LegalFacts.{LegalWave}
+use Rattle.motion.specs.Kept.{cond-period, louder-le, softer-le, lowered-legal, raised-legal, towards-legal, vibrated-legal, trembled-le, moved-legal, remembered-le, remembered-period}
+use Rattle.motion.specs.declared.Wave.{Wave}
+use Rattle.effects.specs.LegalFacts.{LegalChannel, LegalDepths}
 use Rattle.ticks.specs.Legal.{LegalCommand}
 use Rattle.reader.specs.File.{Module, sampleCount, headerVolume}
 use Rattle.reader.specs.Accept.{Accepted, LegalCell}
 use Rattle.reader.specs.declared.Cell.{Cell}
-use Rattle.effects.specs.Slides.{lowered, raised, towards, louder, softer}
+use Rattle.effects.specs.Notes.{isNote}
+use Rattle.effects.specs.Wavering.{vibrates, trembles, rowPlace, rowForm, rowWave}
 use Rattle.effects.specs.Work.{latchedBy, givenVolume, rowVolume, givenPeriod, rowPeriod, rowTarget, rowMemory, rowChannel, tickVolume, tickPeriod, tickChannel, worked}
 use Rattle.effects.specs.Starts.{still, begun, again, noteStart, effectStart, rowStart, tickStart, startFor}
-use Rattle.effects.specs.Sounded.{periods, lastNote, above, semitones, transposed, soundedPeriod, soundedVolume}
-use Rattle.effects.specs.Commands.{commandOf, voicedBy, voiced}
+use Rattle.effects.specs.Sounded.{periods, lastNote, above, semitones, arpeggio, transposed, arpeggiated, soundedPeriod, soundedVolume}
+use Rattle.effects.specs.Commands.{commandOf, afterSound, voicedBy, voiced}
 use Rattle.effects.specs.declared.Channel.{Channel}
 use Rattle.effects.specs.declared.Start.{Start}
 
 -- ---- periods and volumes
-cond-period : (b : Bool) (x y : ℕ) → LegalPeriod x → LegalPeriod y → LegalPeriod (cond b x y)
-cond-period b x y p q = either LegalPeriod b x y (λ e. p) (λ e. q)
-
-louder-le : (v d : ℕ) → louder v d ≤ loudest
-louder-le v d = omega arith
-
-softer-le : (v d : ℕ) → v ≤ loudest → softer v d ≤ loudest
-softer-le v d h = omega arith
-
 smaller-le : (a n : ℕ) → min a n ≤ n
 smaller-le a n = omega arith
-
-in-range : (p : ℕ) → leastPeriod ≤ p → p ≤ greatestPeriod → LegalPeriod p
-in-range p a b = sounding a b
-
-min-period : (p d t : ℕ) → leastPeriod ≤ p → leastPeriod ≤ t → t ≤ greatestPeriod → LegalPeriod (min (p + d) t)
-min-period p d t a b e = in-range _ (omega arith) (omega arith)
-
-max-period : (p d t : ℕ) → p ≤ greatestPeriod → leastPeriod ≤ t → t ≤ greatestPeriod → LegalPeriod (max (p - d) t)
-max-period p d t a b e = in-range _ (omega arith) (omega arith)
-
-lowered-legal : (p d : ℕ) → LegalPeriod p → LegalPeriod (lowered p d)
-unfolding lowered
-lowered-legal p d silent = silent
-lowered-legal p d (sounding a b) = search (cond-period, silent, max-period, lit≤)
-
-raised-legal : (p d : ℕ) → LegalPeriod p → LegalPeriod (raised p d)
-unfolding raised
-raised-legal p d silent = silent
-raised-legal p d (sounding a b) = search (cond-period, silent, min-period, lit≤)
-
-towards-legal : (p t d : ℕ) → LegalPeriod p → LegalPeriod t → LegalPeriod (towards p t d)
-unfolding towards
-towards-legal p t d silent h = silent
-towards-legal p t d (sounding a b) silent = search (cond-period, silent, in-range)
-towards-legal p t d (sounding a b) (sounding e f) = search (cond-period, silent, in-range, min-period, max-period)
 
 -- every entry of the 36 periods is a legal period
 abbrev noted : ℕ → Bool
@@ -85,6 +57,28 @@ transposed-legal : (p k : ℕ) → LegalPeriod p → LegalPeriod (transposed p k
 unfolding transposed
 transposed-legal p k h = search (cond-period, silent, semitones-legal, h)
 
+-- ---- a wave, of vibrato and tremolo alike
+high-digit : (n : ℕ) → n ≤ lastByte → n / 16 ≤ lastMemory
+high-digit n h = omega arith
+
+low-digit : (n : ℕ) → n % 16 ≤ lastMemory
+low-digit n = omega arith
+
+module _ (effect choosing : ℕ) (c : Cell) (w : Wave) where
+  row-depth : w .y ≤ lastMemory → rowWave effect choosing c w .y ≤ lastMemory
+  unfolding rowWave
+  row-depth h = remembered-le _ _ _ _ (low-digit (c .param)) h
+
+  row-wave-legal : c .param ≤ lastByte → LegalWave w → LegalWave (rowWave effect choosing c w)
+  unfolding rowWave rowPlace rowForm
+  row-wave-legal b l =
+      record {
+        x = remembered-le _ _ _ _ (high-digit (c .param) b) (l .x);
+        y = remembered-le _ _ _ _ (low-digit (c .param)) (l .y);
+        place = either (λ (n : ℕ). n < wholeWave) (isNote c) 0 (w .place) (λ e. lit< tt) (λ e. l .place);
+        form = search (cond-le, smaller-le, l);
+      }
+
 -- ---- a channel
 module _ (m : Module) (a : Accepted m) (c : Cell) (lc : LegalCell (sampleCount m) c) (b : c .param ≤ lastByte) where
   noted-period : LegalPeriod (c .period)
@@ -103,8 +97,10 @@ module _ (m : Module) (a : Accepted m) (c : Cell) (lc : LegalCell (sampleCount m
         latched = search (cond-le, lc, l);
         volume = search (cond-le, louder-le, softer-le, smaller-le, zero≤, given-legal, l) depth 9;
         period = search (cond-period, lowered-legal, raised-legal, noted-period, l) depth 9;
-        target = search (cond-period, noted-period, l);
-        memory = search (cond-le, b, l);
+        target = remembered-period _ _ _ noted-period (l .target);
+        memory = remembered-le _ _ _ _ b (l .memory);
+        vibrato = row-wave-legal _ _ c (ch .vibrato) b (l .vibrato);
+        tremolo = row-wave-legal _ _ c (ch .tremolo) b (l .tremolo);
       }
 
   tick-legal : (t : ℕ) (ch : Channel) → LegalChannel (sampleCount m) ch → LegalChannel (sampleCount m) (tickChannel c t ch)
@@ -116,6 +112,8 @@ module _ (m : Module) (a : Accepted m) (c : Cell) (lc : LegalCell (sampleCount m
         period = search (cond-period, lowered-legal, raised-legal, towards-legal, l) depth 9;
         target = l .target;
         memory = l .memory;
+        vibrato = l .vibrato;
+        tremolo = l .tremolo;
       }
 
   pub channel-kept : (u t : ℕ) (ch : Channel) → LegalChannel (sampleCount m) ch → LegalChannel (sampleCount m) (worked (m .bytes) c u t ch)
@@ -123,6 +121,40 @@ module _ (m : Module) (a : Accepted m) (c : Cell) (lc : LegalCell (sampleCount m
   channel-kept u t ch l =
       either (LegalChannel (sampleCount m)) (eqb u 0) (rowChannel (m .bytes) c ch) (cond (eqb t 0) ch (tickChannel c t ch)) (λ e. row-legal ch l)
       (λ e. either (LegalChannel (sampleCount m)) (eqb t 0) ch (tickChannel c t ch) (λ z. l) (λ z. tick-legal t ch l))
+
+-- ---- the depths, whatever the file and the cell
+pub depths-kept : (bytes : List ℕ) (c : Cell) (u t : ℕ) (ch r : Channel) → LegalDepths ch → r ≡ worked bytes c u t ch → LegalDepths r
+unfolding worked rowChannel tickChannel
+depths-kept bytes c u t ch r l e =
+    rw e
+    (either LegalDepths (eqb u 0) _ _ (λ z. record { vibrato = row-depth _ _ c (ch .vibrato) (l .vibrato); tremolo = row-depth _ _ c (ch .tremolo) (l .tremolo) })
+    (λ z. either LegalDepths (eqb t 0) _ _ (λ z. l) (λ z. record { vibrato = l .vibrato; tremolo = l .tremolo })))
+
+-- ---- what sounds, and the waves after it
+volume-legal : (c : Cell) (t : ℕ) (ch : Channel) → ch .volume ≤ loudest → soundedVolume c t ch ≤ loudest
+unfolding soundedVolume
+volume-legal c t ch h = cond-le loudest (trembles c t) _ _ (trembled-le (ch .tremolo) (ch .volume) h) h
+
+arpeggiated-legal : (c : Cell) (t p : ℕ) → LegalPeriod p → LegalPeriod (arpeggiated c t p)
+unfolding arpeggiated
+arpeggiated-legal c t p h = transposed-legal p (arpeggio c t) h
+
+period-legal : (c : Cell) (t : ℕ) (ch : Channel) → LegalPeriod (ch .period) → LegalPeriod (soundedPeriod c t ch)
+unfolding soundedPeriod
+period-legal c t ch h = cond-period (vibrates c t) _ _ (vibrated-legal (ch .vibrato) (ch .period) h) (arpeggiated-legal c t (ch .period) h)
+
+after-legal : (last : ℕ) (c : Cell) (t : ℕ) (ch : Channel) → LegalChannel last ch → LegalChannel last (afterSound c t ch)
+unfolding afterSound
+after-legal last c t ch l =
+    record {
+      latched = l .latched;
+      volume = l .volume;
+      period = l .period;
+      target = l .target;
+      memory = l .memory;
+      vibrato = moved-legal _ (ch .vibrato) (l .vibrato);
+      tremolo = moved-legal _ (ch .tremolo) (l .tremolo);
+    }
 
 -- ---- what starts, beside the sample that sounds
 record LegalStart (last heard : ℕ) (s : Start) : Type 0 where
@@ -153,17 +185,17 @@ module _ (last : ℕ) (c : Cell) (b : c .param ≤ lastByte) (heard : ℕ) (h : 
 module _ (m : Module) (a : Accepted m) (c : Cell) (lc : LegalCell (sampleCount m) c) (b : c .param ≤ lastByte) (u t : ℕ) (ch : Channel) (l : LegalChannel (sampleCount m) ch) (heard : ℕ) (h : heard ≤ sampleCount m) where
   pub voiced-channel : LegalChannel (sampleCount m) (voiced (m .bytes) c u t ch heard .channel)
   unfolding voiced voicedBy
-  voiced-channel = channel-kept m a c lc b u t ch l
+  voiced-channel = after-legal (sampleCount m) c t _ (channel-kept m a c lc b u t ch l)
 
   pub voiced-command : LegalCommand (sampleCount m) heard (voiced (m .bytes) c u t ch heard .command)
-  unfolding voiced voicedBy commandOf soundedVolume soundedPeriod
+  unfolding voiced voicedBy commandOf
   voiced-command =
       let w = channel-kept m a c lc b u t ch l in
       let s = start-legal (sampleCount m) c b heard h u t (worked (m .bytes) c u t ch .latched) (w .latched) in
       record {
         sample = s .sample;
-        volume = w .volume;
-        period = transposed-legal _ _ (w .period);
+        volume = volume-legal c t _ (w .volume);
+        period = period-legal c t _ (w .period);
         offset = s .offset;
         stays = s .stays;
         plain = s .plain;

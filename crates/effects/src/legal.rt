@@ -5,15 +5,21 @@ use crate::Channel;
 use common::limits::LAST_BYTE;
 use common::limits::LOUDEST;
 use common::limits::is_period;
+use motion::legal::is_fresh_wave;
+use motion::legal::legal_wave;
 
 pub fn is_fresh(channel: Channel) -> bool
     ensures { λ r. ⌜ r ≡ isFresh channel ⌝ }
 {
+    let vibrato = is_fresh_wave(channel.vibrato);
+    let tremolo = is_fresh_wave(channel.tremolo);
     (channel.latched == 0)
         & (channel.volume == 0)
         & (channel.period == 0)
         & (channel.target == 0)
         & (channel.memory == 0)
+        & vibrato
+        & tremolo
 }
 
 pub fn legal_channel(last: u32, channel: Channel) -> bool
@@ -21,9 +27,13 @@ pub fn legal_channel(last: u32, channel: Channel) -> bool
 {
     let period = is_period(channel.period);
     let target = is_period(channel.target);
+    let vibrato = legal_wave(channel.vibrato);
+    let tremolo = legal_wave(channel.tremolo);
     (channel.latched <= last)
         & (channel.volume <= LOUDEST)
         & period
         & target
         & (channel.memory <= LAST_BYTE)
+        & vibrato
+        & tremolo
 }

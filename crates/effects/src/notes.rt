@@ -1,18 +1,18 @@
-// Whether a cell has a note or a target.
+// Whether a cell has a note, and whether it slides towards a target.
 ghost use mathlib.Core.Path.{_≡_};
-ghost use Rattle.effects.specs.Notes.{isNote, isTarget};
+ghost use Rattle.effects.specs.Notes.{isPortamento, isNote};
 use reader::Cell;
 
-// A period without effect 3.
+// Effect 3, and 5, which runs it from memory.
+pub fn is_portamento(cell: Cell) -> bool
+    ensures { λ r. ⌜ r ≡ isPortamento cell ⌝ }
+{
+    (cell.effect == 0x03) | (cell.effect == 0x05)
+}
+
+// A period without effects 3 and 5.
 pub fn is_note(cell: Cell) -> bool
     ensures { λ r. ⌜ r ≡ isNote cell ⌝ }
 {
-    (cell.period != 0) & (cell.effect != 0x03)
-}
-
-// A period with effect 3.
-pub fn is_target(cell: Cell) -> bool
-    ensures { λ r. ⌜ r ≡ isTarget cell ⌝ }
-{
-    (cell.period != 0) & (cell.effect == 0x03)
+    (cell.period != 0) & (cell.effect != 0x03) & (cell.effect != 0x05)
 }

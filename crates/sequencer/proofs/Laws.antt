@@ -22,6 +22,7 @@ use Rattle.reader.specs.Accept.{accepted-has}
 use Rattle.reader.specs.declared.Layout.{Layout}
 use Rattle.reader.specs.declared.Cell.{Cell}
 use Rattle.effects.specs.Legal.{freshChannel}
+use Rattle.effects.specs.LegalFacts.{LegalDepths}
 use Rattle.effects.specs.declared.Channel.{Channel}
 use Rattle.effects.specs.declared.Voiced.{Voiced}
 use Rattle.sequencer.specs.Row.{cellOn, rowFlow, flowFrom, flowThrough}
@@ -90,6 +91,10 @@ module _ (m : Module) (at : Place) (f₀ : Flow) (positions : ℕ) where
 pub row-done : (l : Layout) (xs : List ℕ) (positions : ℕ) (s r : Song) (f g : Flow) → s .time .tick ≡ 0 → positions ≡ songLength (lent l xs) → f ≡ flowFrom positions (s .course) (s .time) → g ≡ flowThrough (lent l xs) (s .course .at) f (l .channels) → r ≡ songBy positions s g → r ≡ songWork (lent l xs) s
 unfolding songWork
 row-done l xs positions s r f g z p q h k = rw (eq-eqb (s .time .tick) 0 z, ← p, ← q, ← h) k
+
+-- ---- a legal song's depths
+pub depths-of : (positions : ℕ) (y : Layout) (s : Song) (i : ℕ) → LegalSong positions y s → i < y .channels → LegalDepths (getD (s .channels) i freshChannel)
+depths-of positions y s i l h = record { vibrato = l .channels i h .vibrato .y; tremolo = l .channels i h .tremolo .y }
 
 -- ---- the channels' work, channel by channel
 pub record Voicing (m : Module) (s : Song) (k : List ℕ) (chs : List Channel) (cmds : List Command) (i : ℕ) : Type 0 where

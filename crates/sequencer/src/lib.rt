@@ -2,7 +2,6 @@
 // numbers are handed to it beside the song.
 ghost use mathlib.Core.Path.{_≡_};
 ghost use Prim.Native.Nat.{_<_};
-ghost use Rattle.common.specs.Limits.{width};
 ghost use Rattle.ticks.specs.Commands.{soundingOf};
 ghost use Rattle.reader.specs.Layouts.{LegalLayout};
 ghost use Rattle.sequencer.specs.LegalFacts.{LegalTime, LegalSong};
@@ -131,7 +130,8 @@ pub fn fresh() -> Song
 
 fn voiced_on(layout: Layout, file: &[u8], song: Song, sounding: [u32; WIDTH], i: usize) -> Voiced
     requires layout { ⌜ LegalLayout layout ⌝ }
-    requires channel { ⌜ (i < width) × (0 < song .time .speed) ⌝ }
+    requires channel { ⌜ i < layout .channels ⌝ }
+    requires legal { ⌜ LegalSong (songLength (lent layout (now file))) layout song ⌝ }
     ensures { λ r. ⌜ r ≡ voicedOn (lent layout (now (file .entry))) song sounding i ⌝ }
 {
     let channels = song.channels;
@@ -147,7 +147,7 @@ fn voiced_on(layout: Layout, file: &[u8], song: Song, sounding: [u32; WIDTH], i:
 
 fn all_voiced(layout: Layout, file: &[u8], song: Song, sounding: [u32; WIDTH]) -> AllVoiced
     requires layout { ⌜ LegalLayout layout ⌝ }
-    requires speed { ⌜ 0 < song .time .speed ⌝ }
+    requires legal { ⌜ LegalSong (songLength (lent layout (now file))) layout song ⌝ }
     ensures { λ r. ⌜ r ≡ allVoiced (lent layout (now (file .entry))) song sounding ⌝ }
 {
     let channel = effects::fresh_channel();

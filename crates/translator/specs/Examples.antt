@@ -13,7 +13,8 @@ use Rattle.reader.specs.Cells.{cellFrom, cellAt}
 use Rattle.effects.specs.Notes.{isNote}
 use Rattle.effects.specs.Starts.{noteStart, effectStart, rowStart, startFor}
 use Rattle.effects.specs.Work.{latchedBy, givenVolume, rowVolume, givenPeriod, rowPeriod, rowChannel, worked}
-use Rattle.effects.specs.Sounded.{arpeggio, transposed, soundedPeriod, soundedVolume}
+use Rattle.effects.specs.Wavering.{vibrates, trembles}
+use Rattle.effects.specs.Sounded.{arpeggio, transposed, arpeggiated, soundedPeriod, soundedVolume}
 use Rattle.effects.specs.Commands.{commandOf, voicedBy, voiced}
 use Rattle.sequencer.specs.Row.{rowTempo, rowTime, rowFlow, flowFrom, flowThrough}
 use Rattle.sequencer.specs.Songs.{freshSong, songBy, songWork, voicedOn, allVoiced, tickWith, tickOf}
@@ -47,7 +48,7 @@ unfolding withCell verdict restLines cellLines refusing some total largest patte
 modules-accepted = (refl, refl)
 
 pub one-tick : (streamOf empty 1 ≡ emptyStream 0x02) × (streamOf noted 1 ≡ noteStream 0x02)
-unfolding withCell each partly cellFrom cellAt isNote noteStart effectStart rowStart startFor latchedBy givenVolume rowVolume givenPeriod rowPeriod rowChannel worked arpeggio transposed soundedPeriod soundedVolume commandOf voicedBy voiced
+unfolding withCell each partly cellFrom cellAt isNote noteStart effectStart rowStart startFor latchedBy givenVolume rowVolume givenPeriod rowPeriod rowChannel worked vibrates trembles arpeggio transposed arpeggiated soundedPeriod soundedVolume commandOf voicedBy voiced
     rowTempo rowTime rowFlow flowFrom flowThrough freshSong songBy songWork voicedOn allVoiced tickWith tickOf ticksFrom
     fourBytes atFirst changed mask commandBytes channelBytes channelsBytes recordBytes records streamHeader encodeAfter
 one-tick = (refl, refl)

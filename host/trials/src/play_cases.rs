@@ -23,6 +23,7 @@ pub fn play_cases() -> Vec<Case> {
         ("flow", flow()),
         ("edges", edges()),
         ("breaks", breaks()),
+        ("waves", waves()),
     ]
 }
 
@@ -71,7 +72,7 @@ const VOLUME_EFFECTS: &Column = &[
     (0, 320, 0xEC2),
     (1, 0, 0xEC0),
     (0, 0, 0xCFF),
-    (0, 0, 0x7FF),
+    (0, 0, 0x8FF),
 ];
 
 const SLIDES_TO_LIMITS: &Column = &[(0, 0, 0), (1, 856, 0x20F), (2, 120, 0x1FF), (0, 0, 0)];
@@ -176,6 +177,76 @@ fn breaks() -> Vec<u8> {
     }
     draft.put(0, 0, 1, 0, 0, 0xF01);
     draft.put(0, 0, 2, 0, 0, 0xFFF);
+    draft.bytes()
+}
+
+/// A vibrato that starts with its note, goes on from memory, takes each form, and slides its volume.
+const VIBRATO: &Column = &[
+    (1, 428, 0x4F8),
+    (0, 0, 0x400),
+    (0, 0, 0x60A),
+    (0, 0, 0xE41),
+    (0, 0, 0x41F),
+    (0, 0, 0xE46),
+    (0, 0, 0x4B0),
+    (0, 0, 0x630),
+    (0, 214, 0xE43),
+    (0, 0, 0x4FF),
+    (1, 320, 0x600),
+];
+
+/// A tremolo in the same way, up to the loudest volume and down to none.
+const TREMOLO: &Column = &[
+    (2, 285, 0x7B9),
+    (0, 0, 0x700),
+    (0, 0, 0xE71),
+    (0, 0, 0x707),
+    (0, 0, 0xC05),
+    (0, 0, 0x7F0),
+    (0, 0, 0xE77),
+    (0, 0, 0xC3D),
+    (0, 0, 0x73F),
+    (0, 0, 0xE7C),
+    (2, 0, 0x7D4),
+];
+
+/// Notes beside 5, which are targets; restarts, which leave a wave's place; and no note at all.
+const SLIDES_AND_WAVES: &Column = &[
+    (0, 0, 0x4FF),
+    (1, 404, 0x000),
+    (0, 202, 0x30B),
+    (0, 0, 0x507),
+    (1, 480, 0x5F0),
+    (0, 0, 0x4A6),
+    (0, 0, 0xE92),
+    (0, 0, 0x400),
+    (0, 0, 0x902),
+    (0, 0, 0x600),
+    (2, 302, 0x50F),
+];
+
+/// Both ends of the periods, and a delayed row, whose repetition does not waver at its first tick.
+const WAVES_AT_LIMITS: &Column = &[
+    (1, 113, 0xF04),
+    (0, 0, 0x47F),
+    (0, 0, 0x400),
+    (1, 856, 0x4DF),
+    (0, 0, 0x400),
+    (0, 0, 0xEE1),
+    (1, 120, 0xE42),
+    (0, 0, 0x48F),
+    (0, 0, 0x4F0),
+];
+
+/// Vibrato and tremolo, four ticks a row.
+fn waves() -> Vec<u8> {
+    let mut draft = Draft::empty();
+    draft.add_looped(1, 64, 20, 80, &noise(6, 240));
+    draft.add_looped(2, 40, 0, 90, &noise(7, 180));
+    column(&mut draft, 0, VIBRATO);
+    column(&mut draft, 1, TREMOLO);
+    column(&mut draft, 2, SLIDES_AND_WAVES);
+    column(&mut draft, 3, WAVES_AT_LIMITS);
     draft.bytes()
 }
 

@@ -1,5 +1,6 @@
 -- By what the three calls give.
 use Rattle.effects.specs.Commands.{voiced}
+use Rattle.effects.specs.Kept.{depths-kept}
 use borrow.Author.Needs.{needs}
 use Rattle.effects.proofs.commands.voiced.Statement.{statement}
 use Rattle.effects.proofs.commands.voiced.Tie as tie
@@ -11,5 +12,5 @@ voiced-spec =
     (tie.spec
     (λ c κs. search needs)
     (λ c κs. search needs)
-    (λ c κs. search needs)
+    (λ c κs. search (depths-kept, needs))
     (λ c. cc))

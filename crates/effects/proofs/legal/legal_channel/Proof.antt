@@ -12,4 +12,6 @@ legal-channel-spec =
     (tie.spec
     (λ c κs. search needs)
     (λ c κs. search needs)
-    (λ c. rw (c .before .before .before .is-period2 .ensures, c .before .before .before .before .is-period .ensures)))
+    (λ c κs. search needs)
+    (λ c κs. search needs)
+    (λ c. cc))

@@ -1,10 +1,10 @@
 -- A period or target of 0 moves nothing. The distance to the target is held against the slide, so that nothing passes it.
 use Rattle.laws.specs.Tests.{tests}
 use Rattle.laws.specs.Numbers.{limits}
-use Rattle.effects.specs.Slides.{towards}
+use Rattle.motion.specs.Slides.{towards}
 use borrow.Author.Needs.{needs}
-use Rattle.effects.proofs.slides.towards.Statement.{statement}
-use Rattle.effects.proofs.slides.towards.Tie as tie
+use Rattle.motion.proofs.slides.towards.Statement.{statement}
+use Rattle.motion.proofs.slides.towards.Tie as tie
 
 pub towards-spec : {M : Type 1} → statement M
 unfolding towards

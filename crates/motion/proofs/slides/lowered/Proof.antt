@@ -1,10 +1,10 @@
 -- A period of 0 stays. The difference is formed only where something is left of it, and the tests say on which side of the limit it lies.
 use Rattle.laws.specs.Tests.{tests}
 use Rattle.laws.specs.Numbers.{limits}
-use Rattle.effects.specs.Slides.{lowered}
+use Rattle.motion.specs.Slides.{lowered}
 use borrow.Author.Needs.{needs}
-use Rattle.effects.proofs.slides.lowered.Statement.{statement}
-use Rattle.effects.proofs.slides.lowered.Tie as tie
+use Rattle.motion.proofs.slides.lowered.Statement.{statement}
+use Rattle.motion.proofs.slides.lowered.Tie as tie
 
 pub lowered-spec : {M : Type 1} → statement M
 unfolding lowered

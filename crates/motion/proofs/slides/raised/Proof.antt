@@ -1,10 +1,10 @@
 -- A period of 0 stays. The sum is formed only where it is below the limit.
 use Rattle.laws.specs.Tests.{tests}
 use Rattle.laws.specs.Numbers.{limits}
-use Rattle.effects.specs.Slides.{raised}
+use Rattle.motion.specs.Slides.{raised}
 use borrow.Author.Needs.{needs}
-use Rattle.effects.proofs.slides.raised.Statement.{statement}
-use Rattle.effects.proofs.slides.raised.Tie as tie
+use Rattle.motion.proofs.slides.raised.Statement.{statement}
+use Rattle.motion.proofs.slides.raised.Tie as tie
 
 pub raised-spec : {M : Type 1} → statement M
 unfolding raised

@@ -1,0 +1,77 @@
+-- Slides and waves keep periods, volumes and waves legal. What up and down keep, a wave keeps: `wavered-keeps`.
+-- Assumes nothing.
+use Prim.Native.Nat.{ℕ, _+_, _-_, _%_, _≤_, _<_, min, max}
+use mathlib.Core.Bool.{Bool, cond}
+use native.Mathlib.Omega.{arith}
+use lib.Dec.{lit≤}
+use Rattle.laws.specs.Choice.{either}
+use Rattle.laws.specs.Numbers.{cond-le}
+use Rattle.common.specs.Limits.{loudest, leastPeriod, greatestPeriod}
+use Rattle.common.specs.LimitFacts.{LegalPeriod}
+use Rattle.common.specs.LimitFacts.LegalPeriod.{silent, sounding}
+use Rattle.motion.specs.Slides.{lowered, raised, towards, louder, softer}
+use Rattle.motion.specs.Waves.{wholeWave, isRaising, wavered, vibratoDivisor, vibrated, tremoloDivisor, trembled, moved, remembered}
+use Rattle.motion.specs.LegalFacts.{LegalWave}
+use Rattle.motion.specs.declared.Wave.{Wave}
+
+-- ---- slides
+pub cond-period : (b : Bool) (x y : ℕ) → LegalPeriod x → LegalPeriod y → LegalPeriod (cond b x y)
+cond-period b x y p q = either LegalPeriod b x y (λ e. p) (λ e. q)
+
+pub louder-le : (v d : ℕ) → louder v d ≤ loudest
+louder-le v d = omega arith
+
+pub softer-le : (v d : ℕ) → v ≤ loudest → softer v d ≤ loudest
+softer-le v d h = omega arith
+
+in-range : (p : ℕ) → leastPeriod ≤ p → p ≤ greatestPeriod → LegalPeriod p
+in-range p a b = sounding a b
+
+min-period : (p d t : ℕ) → leastPeriod ≤ p → leastPeriod ≤ t → t ≤ greatestPeriod → LegalPeriod (min (p + d) t)
+min-period p d t a b e = in-range _ (omega arith) (omega arith)
+
+max-period : (p d t : ℕ) → p ≤ greatestPeriod → leastPeriod ≤ t → t ≤ greatestPeriod → LegalPeriod (max (p - d) t)
+max-period p d t a b e = in-range _ (omega arith) (omega arith)
+
+pub lowered-legal : (p d : ℕ) → LegalPeriod p → LegalPeriod (lowered p d)
+unfolding lowered
+lowered-legal p d silent = silent
+lowered-legal p d (sounding a b) = search (cond-period, silent, max-period, lit≤)
+
+pub raised-legal : (p d : ℕ) → LegalPeriod p → LegalPeriod (raised p d)
+unfolding raised
+raised-legal p d silent = silent
+raised-legal p d (sounding a b) = search (cond-period, silent, min-period, lit≤)
+
+pub towards-legal : (p t d : ℕ) → LegalPeriod p → LegalPeriod t → LegalPeriod (towards p t d)
+unfolding towards
+towards-legal p t d silent h = silent
+towards-legal p t d (sounding a b) silent = search (cond-period, silent, in-range)
+towards-legal p t d (sounding a b) (sounding e f) = search (cond-period, silent, in-range, min-period, max-period)
+
+-- ---- waves
+wavered-keeps : (P : ℕ → Type 0) (up down : ℕ → ℕ → ℕ) → ((n d : ℕ) → P n → P (up n d)) → ((n d : ℕ) → P n → P (down n d)) → (divisor : ℕ) (w : Wave) (n : ℕ) → P n → P (wavered up down divisor w n)
+unfolding wavered
+wavered-keeps P up down f g divisor w n h = either P (isRaising (w .place)) _ _ (λ e. f n _ h) (λ e. g n _ h)
+
+pub vibrated-legal : (w : Wave) (p : ℕ) → LegalPeriod p → LegalPeriod (vibrated w p)
+vibrated-legal w p h = wavered-keeps LegalPeriod raised lowered raised-legal lowered-legal vibratoDivisor w p h
+
+pub trembled-le : (w : Wave) (v : ℕ) → v ≤ loudest → trembled w v ≤ loudest
+trembled-le w v h = wavered-keeps (λ (n : ℕ). n ≤ loudest) louder softer (λ n d l. louder-le n d) softer-le tremoloDivisor w v h
+
+around-less : (n : ℕ) → n % wholeWave < wholeWave
+around-less n = omega arith
+
+pub moved-legal : (used : Bool) (w : Wave) → LegalWave w → LegalWave (moved used w)
+unfolding moved
+moved-legal used w l = either LegalWave used _ _ (λ e. record { x = l .x; y = l .y; place = around-less _; form = l .form }) (λ e. l)
+
+-- ---- memory
+pub remembered-le : (k : ℕ) (given : Bool) (n old : ℕ) → n ≤ k → old ≤ k → remembered given n old ≤ k
+unfolding remembered
+remembered-le k given n old h l = search (cond-le, h, l)
+
+pub remembered-period : (given : Bool) (n old : ℕ) → LegalPeriod n → LegalPeriod old → LegalPeriod (remembered given n old)
+unfolding remembered
+remembered-period given n old h l = search (cond-period, h, l)
