@@ -1,5 +1,5 @@
 # make lib                  the C library and its header, in out/
-# make demo                 writes a module, plays it, translates it, plays its stream, and compares; all in out/
+# make demo                 writes two modules, plays one, translates it, plays its stream, and compares; all in out/
 # make judge FILE=song.mod  judges a file
 # make test                 everything: the proofs, the programs, the host's tests (.ci/run)
 # make host-test            the host's tests alone: c-test, robust, install-test and cargo's
@@ -36,13 +36,15 @@ judge: lib
 	@$(CARGO) run --release --locked --quiet -p lampthistle -- judge -- "$${FILE:?usage: make judge FILE=song.mod}"
 
 demo: all
-	$(BUILT)/demo out/demo.mod
+	$(BUILT)/demo out/demo.mod out/waves.mod
 	$(PLAY) info out/demo.mod
 	$(PLAY) play out/demo.mod --once --out out/demo.wav
 	$(PLAY) translate out/demo.mod --once --out out/demo.stream
 	$(PLAY) board out/demo.stream out/demo.mod --out out/demo-board.wav
 	$(PLAY) compare out/demo.mod --once
 	cmp out/demo.wav out/demo-board.wav
+	$(PLAY) play out/waves.mod --once --out out/waves.wav
+	$(PLAY) compare out/waves.mod --once
 
 bench: all
 	$(BUILT)/bench
@@ -63,7 +65,7 @@ host-test: c-test robust install-test
 
 # The archive and the header as C and C++ users get them, and the examples.
 c-test: demo
-	for part in judge play floats burst quiet stream; do \
+	for part in judge play waves floats burst quiet stream; do \
 	    $(CC) -std=c99 $(C_WARNINGS) -Iout host/c/$$part.c out/liblampthistle.a -o out/$${part}_c && out/$${part}_c || exit 1; \
 	    $(CXX) -std=c++11 $(C_WARNINGS) -x c++ -Iout host/c/$$part.c -x none out/liblampthistle.a -o out/$${part}_cc \
 	        && out/$${part}_cc || exit 1; \

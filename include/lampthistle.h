@@ -76,17 +76,17 @@ extern "C" {
 #endif
 
 #define LAMPTHISTLE_VERSION_MAJOR 0
-#define LAMPTHISTLE_VERSION_MINOR 3
+#define LAMPTHISTLE_VERSION_MINOR 4
 #define LAMPTHISTLE_VERSION_PATCH 0
 /* This header's version as one number, and as text. */
 #define LAMPTHISTLE_VERSION (1000000 * LAMPTHISTLE_VERSION_MAJOR + 1000 * LAMPTHISTLE_VERSION_MINOR + LAMPTHISTLE_VERSION_PATCH)
-#define LAMPTHISTLE_VERSION_TEXT "0.3.0"
+#define LAMPTHISTLE_VERSION_TEXT "0.4.0"
 /* Whether cells, refusals and calls of a version are those of this header. */
 #define LAMPTHISTLE_SAME_CELLS(version) ((version) / 1000 == LAMPTHISTLE_VERSION / 1000)
 
 #define LAMPTHISTLE_RATE 48000
 #define LAMPTHISTLE_CHANNELS 4
-#define LAMPTHISTLE_STATE_CELLS 57
+#define LAMPTHISTLE_STATE_CELLS 89
 /* The most numbers that one tick takes: 3,750 frames at tempo 32. */
 #define LAMPTHISTLE_TICK_NUMBERS 7500
 /* The sides of a frame of floats. */
@@ -97,7 +97,7 @@ extern "C" {
 /* The most touches that one burst takes. */
 #define LAMPTHISTLE_MOST_TOUCHES 64
 /* The most stack that one call takes, and one that plays floats. */
-#define LAMPTHISTLE_STACK_BYTES 8192
+#define LAMPTHISTLE_STACK_BYTES 12288
 #define LAMPTHISTLE_FLOAT_STACK_BYTES 32768
 
 /* An answer's cells. */
@@ -222,13 +222,22 @@ enum lampthistle_cell {
     LAMPTHISTLE_FIRST_CHANNEL /* the four channels' cells begin here */
 };
 
-/* A channel's cells. */
+/* A channel's cells. A wave's x, what its place gains with each use, and y, its depth, are remembered; its place is 0 to 63, its form a
+   lampthistle_form. */
 enum lampthistle_channel_cell {
     LAMPTHISTLE_LATCHED_SAMPLE,
     LAMPTHISTLE_VOLUME,
     LAMPTHISTLE_PERIOD,
     LAMPTHISTLE_TARGET,
     LAMPTHISTLE_SLIDE_MEMORY,
+    LAMPTHISTLE_VIBRATO_X,
+    LAMPTHISTLE_VIBRATO_Y,
+    LAMPTHISTLE_VIBRATO_PLACE,
+    LAMPTHISTLE_VIBRATO_FORM,
+    LAMPTHISTLE_TREMOLO_X,
+    LAMPTHISTLE_TREMOLO_Y,
+    LAMPTHISTLE_TREMOLO_PLACE,
+    LAMPTHISTLE_TREMOLO_FORM,
     LAMPTHISTLE_VOICE_SAMPLE,
     LAMPTHISTLE_VOICE_PERIOD,
     LAMPTHISTLE_VOICE_VOLUME,
@@ -236,6 +245,13 @@ enum lampthistle_channel_cell {
     LAMPTHISTLE_VOICE_FRACTION,
     LAMPTHISTLE_VOICE_STOPPED, /* 0 or 1 */
     LAMPTHISTLE_CHANNEL_CELLS
+};
+
+/* A wave's forms. */
+enum lampthistle_form {
+    LAMPTHISTLE_FORM_SINE,
+    LAMPTHISTLE_FORM_RAMP,
+    LAMPTHISTLE_FORM_SQUARE
 };
 
 /* Where a channel's cell stands in the state; channels from 0. */

@@ -26,7 +26,7 @@ pub fn tick_rest(tempo: u32, remainder: u32) -> u32 {
 }
 
 /// The cells of a state.
-pub const STATE_CELLS: usize = 57;
+pub const STATE_CELLS: usize = 89;
 
 /// Where a song is and how its voices sound, in plain numbers; `cell` names them.
 ///

@@ -28,7 +28,7 @@ Examples:
   song.mod: refused 9 at 1484: a cell's period is neither 0 nor 113 to 856 (pattern 0, row 25, channel 1, period 857)
   lampthistle judge --notes other.mod
   other.mod: accepted
-  other.mod: effect 4 (vibrato) does nothing: 3 cells, first in pattern 0, row 16, channel 2
+  other.mod: effect ED (note delay) does nothing: 3 cells, first in pattern 0, row 16, channel 2
 
 Exit status: 0 all accepted; 1 one refused; 2 wrong use, or a file that cannot be read.
 ",

@@ -27,6 +27,7 @@ mod stream;
 mod target;
 mod trace;
 mod trial;
+mod waves;
 mod why;
 mod words;
 

@@ -13,17 +13,11 @@ enum Asked {
 }
 
 /// All that does nothing. An effect that gets its work leaves this table.
-const NOTHING: [(Asked, &str); 14] = [
-    (Asked::Effect(0x4), "vibrato"),
-    (Asked::Effect(0x5), "slide to note with volume slide"),
-    (Asked::Effect(0x6), "vibrato with volume slide"),
-    (Asked::Effect(0x7), "tremolo"),
+const NOTHING: [(Asked, &str); 8] = [
     (Asked::Effect(0x8), "panning"),
     (Asked::Effect(0xE0), "filter"),
     (Asked::Effect(0xE3), "glissando"),
-    (Asked::Effect(0xE4), "vibrato waveform"),
     (Asked::Effect(0xE5), "finetune of a note"),
-    (Asked::Effect(0xE7), "tremolo waveform"),
     (Asked::Effect(0xE8), "panning"),
     (Asked::Effect(0xED), "note delay"),
     (Asked::Effect(0xEF), "invert loop"),

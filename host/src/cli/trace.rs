@@ -9,24 +9,27 @@ use super::report::plain_accepted;
 use super::song::{Song, TICK_FRAMES};
 use super::stop::Stop;
 use super::stream::translated;
+use super::waves;
 use super::words::Words;
 use super::Command;
-use lampthistle::CHANNELS;
+use lampthistle::{State, CHANNELS};
 
 pub const COMMAND: Command = Command {
     name: "trace",
     options: &["--ticks"],
-    flags: &["--once", "--json"],
+    flags: &["--once", "--waves", "--json"],
     help: "\
-lampthistle trace FILE [--once | --ticks N] [--plain | --json]
+lampthistle trace FILE [--once | --ticks N] [--waves] [--plain | --json]
 
 Shows the first N ticks of a module or of a tick stream, 100 without --ticks, a line a tick: its number, the module's position and row,
-the tempo, the remainder that the tick leaves, its frames, and each channel's sample, volume and sounded period. A * stands before a
-channel that changes or starts; @ and the byte offset after one that starts. --once shows a module's ticks until it comes back to a
-place where it has been, as info tells.
+the tempo, the remainder that the tick leaves, its frames, and each channel's sample, sounded volume and sounded period. A * stands before
+a channel that changes or starts; @ and the byte offset after one that starts. --once shows a module's ticks until it comes back to a
+place where it has been, as info tells. --waves shows each channel's vibrato, v, and tremolo, t, too, as the tick leaves them: x and y as
+an effect has them, the place, 0 to 63, and the form.
 --plain prints NUMBER PLACE COUNT, the count in bytes of the stream, then a line a tick: tick, position, row, tempo, remainder and
-frames, and for each channel six numbers: 1 if it is in the record, sample, volume, period, start, offset / 256. A stream has - - for
-position and row. --json prints an object a tick.
+frames, and for each channel six numbers: 1 if it is in the record, sample, volume, period, start, offset / 256. --waves adds x, y, place
+and form of its vibrato and of its tremolo; the forms are 0 sine, 1 ramp, 2 square. A stream has - - for position and row. --json prints
+an object a tick, with the waves of a module.
 
 Example:
   lampthistle trace song.mod --ticks 4
@@ -45,8 +48,9 @@ const PIECE: usize = 1 << 16;
 /// A tick as it is shown.
 struct Tick<'a> {
     number: usize,
-    /// Position and row of a module.
+    /// Position and row of a module, and the state that the tick leaves.
     place: Option<(u32, u32)>,
+    state: Option<State>,
     /// What it leaves for the next, and how long it is.
     remainder: u32,
     frames: usize,
@@ -59,6 +63,9 @@ fn run(words: &Words) -> Result<bool, Stop> {
     let (stream, mut song, ticks) = if is_stream(&source)? {
         if words.has("--once") {
             return Err(Stop::Usage("--once: a stream has no places".into()));
+        }
+        if words.has("--waves") {
+            return Err(Stop::Usage("--waves: a stream has no waves".into()));
         }
         let ticks = ticks_asked(words, &source)?.unwrap_or(TICKS);
         (source.bytes.clone(), None, ticks)
@@ -82,6 +89,7 @@ fn run(words: &Words) -> Result<bool, Stop> {
             &Tick {
                 number,
                 place,
+                state: song.as_ref().map(|song| song.state),
                 remainder: lengths.remainder,
                 frames,
                 record: &record,
@@ -136,8 +144,15 @@ fn line(words: &Words, source: &Source, tick: &Tick) -> String {
     } else {
         format!("{number:>5} {position:>4} {row:>3} {tempo:>5} {remainder:>3} {frames:>6}")
     };
+    let show_waves = if words.plain {
+        waves::bare
+    } else {
+        waves::marked
+    };
+    let waving = tick.state.filter(|_| words.has("--waves"));
     for channel in 0..CHANNELS {
         line += &show(tick, channel);
+        line += &waving.map_or(String::new(), |state| show_waves(&state, channel));
     }
     line.trim_end().to_string() + "\n"
 }
@@ -150,8 +165,9 @@ fn heading(words: &Words, bytes: u64) -> String {
         return plain_accepted(bytes);
     }
     let mut text = String::from(" tick  pos row tempo rem frames");
+    let width = if words.has("--waves") { 39 } else { 9 };
     for channel in 1..=CHANNELS {
-        text += &format!("   channel {channel:<9}");
+        text += &format!("   channel {channel:<width$}");
     }
     text.trim_end().to_string() + "\n"
 }
@@ -190,7 +206,7 @@ fn fields(source: &Source, tick: &Tick) -> Fields {
     let channels = (0..CHANNELS).map(|channel| -> Fields {
         let (command, registers) = (tick.record.commands[channel], tick.registers[channel]);
         let start = command.filter(|command| command.start);
-        vec![
+        let mut fields: Fields = vec![
             ("changed", command.is_some().into()),
             ("sample", registers.sample.into()),
             ("volume", registers.volume.into()),
@@ -199,7 +215,9 @@ fn fields(source: &Source, tick: &Tick) -> Fields {
                 "starts_at",
                 start.map(|command| command.start_byte()).into(),
             ),
-        ]
+        ];
+        fields.extend(waves::fields(tick.state.as_ref(), channel));
+        fields
     });
     vec![
         ("file", source.name.as_str().into()),

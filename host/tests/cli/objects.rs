@@ -29,13 +29,13 @@ fn judge_prints_an_object_a_file() {
 
 #[test]
 fn info_prints_one_object() {
-    let name = quiet("info_object.mod", &[0, 0, 0x04, 0x11]);
+    let name = quiet("info_object.mod", &[0, 0, 0x08, 0x11]);
     let (status, lines) = lines(&["info", &name]);
     let parts = [
         format!(r#"{{"file":"{name}","number":0,"place":0,"meaning":"accepted","title":"","#),
         r#""song_length":1,"patterns":1,"table":[0],"ticks":384,"frames":368640,"#.into(),
         r#""comes_back_to":{"position":0,"row":0},"samples":[],"#.into(),
-        r#""notes":[{"effect":"4","name":"vibrato","cells":1,"pattern":0,"row":0,"channel":1}]}"#
+        r#""notes":[{"effect":"8","name":"panning","cells":1,"pattern":0,"row":0,"channel":1}]}"#
             .into(),
     ];
     assert_eq!((status, lines), (0, vec![parts.concat()]));
@@ -52,10 +52,13 @@ fn trace_prints_an_object_a_tick() {
     let start = format!(
         r#"{{"file":"{name}","tick":0,"position":0,"row":0,"tempo":255,"remainder":150,"frames":470,"channels":["#
     );
-    let channel = r#"{"changed":true,"sample":1,"volume":64,"period":428,"starts_at":0},"#;
-    assert!(lines[0].starts_with(&(start + channel)), "{}", lines[0]);
-    let end = r#"{"changed":false,"sample":0,"volume":0,"period":0,"starts_at":null}]}"#;
-    assert!(lines[1].ends_with(end), "{}", lines[1]);
+    let waves = r#""vibrato":{"x":0,"y":0,"place":0,"form":"sine"},"tremolo":{"x":0,"y":0,"place":0,"form":"sine"}}"#;
+    let channel = r#"{"changed":true,"sample":1,"volume":64,"period":428,"starts_at":0,"#;
+    let start = start + channel + waves + ",";
+    assert!(lines[0].starts_with(&start), "{}", lines[0]);
+    let end = r#"{"changed":false,"sample":0,"volume":0,"period":0,"starts_at":null,"#;
+    let end = format!("{end}{waves}]}}");
+    assert!(lines[1].ends_with(&end), "{}", lines[1]);
 }
 
 #[test]

@@ -87,12 +87,12 @@ fn asking(name: &str) -> String {
     (file[950], file[952], file[954], file[955]) = (3, 1, 1, 2);
     file[20 + 30 + 24] = 0xF3;
     for (pattern, row, channel, cell) in [
-        (0, 9, 1, [0, 0, 0x04, 0x11]),
-        (1, 12, 3, [0, 0, 0x04, 0]),
+        (0, 9, 1, [0, 0, 0x08, 0x11]),
+        (1, 12, 3, [0, 0, 0x08, 0]),
         (1, 12, 2, [0, 0, 0x0E, 0xD3]),
         (1, 13, 0, [1, 0xAC, 0x20, 0]),
         (1, 14, 0, [0, 0, 0x0E, 0x93]),
-        (2, 0, 0, [0, 0, 0x07, 0x11]),
+        (2, 0, 0, [0, 0, 0x0E, 0x03]),
     ] {
         file[1084 + 1024 * pattern + 16 * row + 4 * channel..][..4].copy_from_slice(&cell);
     }
@@ -104,7 +104,7 @@ fn asking(name: &str) -> String {
 fn notes_say_what_does_nothing() {
     let name = &asking("asking.mod");
     let lines = [
-        "effect 4 (vibrato) does nothing: 2 cells, first in pattern 1, row 12, channel 4",
+        "effect 8 (panning) does nothing: 2 cells, first in pattern 1, row 12, channel 4",
         "effect ED (note delay) does nothing: 1 cell, first in pattern 1, row 12, channel 3",
         "finetune of a sample does nothing: 1 cell, first in pattern 1, row 13, channel 1",
     ];
@@ -114,7 +114,7 @@ fn notes_say_what_does_nothing() {
     let (_, out, _) = told(&["info", name]);
     assert!(out.ends_with(&(lines.join("\n") + "\n")), "{out}");
     let (_, out, _) = told(&["judge", "--notes", "--plain", name]);
-    let notes = format!("note 4 2 1 12 4 {name}\nnote ED 1 1 12 3 {name}\n");
+    let notes = format!("note 8 2 1 12 4 {name}\nnote ED 1 1 12 3 {name}\n");
     assert!(out.starts_with(&format!("0 0 0 {name}\n{notes}")), "{out}");
     assert_eq!(told(&["judge", name]).1, format!("{name}: accepted\n"));
 }

@@ -137,6 +137,29 @@ fn trace_marks_what_changes() {
     assert!(out.contains("    3    0   1   255 "), "{out}");
 }
 
+/// The vibrato F8 on period 428 and the tremolo B9 on volume 40, both from place 0.
+#[test]
+fn trace_shows_waves() {
+    let module = stored("waves");
+    let plain = told(&["trace", "--plain", "--waves", "--ticks", "3", &module]).1;
+    let lines: Vec<&str> = plain.lines().collect();
+    let first = "0 0 0 125 0 960 1 1 64 428 1 0 15 8 0 0 0 0 0 0 1 2 40 285 1 0 0 0 0 0 11 9 0 0 ";
+    let third =
+        "2 0 0 125 0 960 1 1 64 443 0 0 15 8 30 0 0 0 0 0 1 2 64 285 0 0 0 0 0 0 11 9 22 0 ";
+    assert!(lines[1].starts_with(first), "{}", lines[1]);
+    assert!(lines[3].starts_with(third), "{}", lines[3]);
+    let (status, out, _) = told(&["trace", "--waves", "--ticks", "16", &module]);
+    let line = "    2    0   0   125   0    960  * 1 64 443         v F8 30 sine   t 00  0 sine  ";
+    assert!(status == 0 && out.contains(line), "{out}");
+    assert!(out.contains("ramp"), "{out}");
+    let stream = translated(&module, "9", "waves.stream");
+    let (status, _, err) = told(&["trace", "--waves", &stream]);
+    assert_eq!(status, 2);
+    assert!(err.contains("a stream has no waves"), "{err}");
+    let (_, out, _) = told(&["trace", "--json", "--ticks", "1", &stream]);
+    assert!(out.contains(r#""vibrato":null,"tremolo":null"#), "{out}");
+}
+
 #[test]
 fn trace_shows_a_stream() {
     let module = stored("effects");

@@ -1,4 +1,4 @@
-//! damaged FOLDER: writes inputs for the memory checker: k.mod, k.state (57 numbers of four bytes, low byte first) and k.stream; most of
+//! damaged FOLDER: writes inputs for the memory checker: k.mod, k.state (a state's cells, four bytes each, low byte first) and k.stream; most of
 //! them damaged.
 use second::generate::damage::any_file;
 use second::generate::modules::{module, Size};

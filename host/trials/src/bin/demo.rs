@@ -1,17 +1,19 @@
-//! demo FILE: writes the demo module.
+//! demo FILE [WAVES]: writes the demo module, and a second one with vibrato and tremolo.
+use std::ffi::OsString;
 use std::process::ExitCode;
 
 fn main() -> ExitCode {
-    let mut words = std::env::args_os().skip(1);
-    let (Some(name), None) = (words.next(), words.next()) else {
-        eprintln!("usage: demo FILE");
+    let names: Vec<OsString> = std::env::args_os().skip(1).collect();
+    if !(1..=2).contains(&names.len()) {
+        eprintln!("usage: demo FILE [WAVES]");
         return ExitCode::from(2);
-    };
-    match std::fs::write(&name, trials::demo::module()) {
-        Ok(()) => ExitCode::SUCCESS,
-        Err(e) => {
+    }
+    let modules = [trials::demo::module(), trials::demo::waves::module()];
+    for (name, module) in names.iter().zip(modules) {
+        if let Err(e) = std::fs::write(name, module) {
             eprintln!("{}: {e}", name.to_string_lossy());
-            ExitCode::from(2)
+            return ExitCode::from(2);
         }
     }
+    ExitCode::SUCCESS
 }

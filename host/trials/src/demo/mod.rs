@@ -1,6 +1,7 @@
 //! The demo module: four bars of bass, lead, pad and drums over three patterns, with arpeggios, slides, loops, a pattern break and a
 //! delay.
 mod sounds;
+pub mod waves;
 
 use second::generate::draft::Draft;
 use sounds::Sound;
