@@ -92,24 +92,23 @@ pub row-done : (l : Layout) (xs : List ℕ) (positions : ℕ) (s r : Song) (f g 
 unfolding songWork
 row-done l xs positions s r f g z p q h k = rw (eq-eqb (s .time .tick) 0 z, ← p, ← q, ← h) k
 
--- ---- a legal song's depths
-pub depths-of : (positions : ℕ) (y : Layout) (s : Song) (i : ℕ) → LegalSong positions y s → i < y .channels → LegalDepths (getD (s .channels) i freshChannel)
-depths-of positions y s i l h = record { vibrato = l .channels i h .vibrato .y; tremolo = l .channels i h .tremolo .y }
-
 -- ---- the channels' work, channel by channel
+-- of a song with legal depths
 pub record Voicing (m : Module) (s : Song) (k : List ℕ) (chs : List Channel) (cmds : List Command) (i : ℕ) : Type 0 where
   pub low : i ≤ channelCount m
+  pub depths : (j : ℕ) → j < channelCount m → LegalDepths (getD (s .channels) j freshChannel)
   pub worked : Parting (λ j. voicedOn m s k j .channel) (λ j. freshChannel) freshChannel width chs i
   pub told : Parting (λ j. voicedOn m s k j .command) (λ j. nothing) nothing width cmds i
 
 module _ (m : Module) (s : Song) (k : List ℕ) (chs : List Channel) (cmds : List Command) where
-  pub voicing-begin : (x : Channel) → x ≡ freshChannel → chs ≡ replicate width x → cmds ≡ replicate width nothing → Voicing m s k chs cmds 0
-  voicing-begin x z e q = record { low = zero≤; worked = pad-begin _ _ _ _ (e ∙ ap (replicate width) z) (ap length e); told = pad-begin _ _ _ _ q (ap length q) }
+  pub voicing-begin : (x : Channel) (positions : ℕ) → LegalSong positions (m .layout) s → x ≡ freshChannel → chs ≡ replicate width x → cmds ≡ replicate width nothing → Voicing m s k chs cmds 0
+  voicing-begin x positions l z e q = record { low = zero≤; depths = λ j h. record { vibrato = l .channels j h .vibrato .y; tremolo = l .channels j h .tremolo .y }; worked = pad-begin _ _ _ _ (e ∙ ap (replicate width) z) (ap length e); told = pad-begin _ _ _ _ q (ap length q) }
 
   pub voicing-again : (i : ℕ) (v : Voiced) → LegalLayout (m .layout) → Voicing m s k chs cmds i → i < channelCount m → v ≡ voicedOn m s k i → Voicing m s k (set chs i (v .channel)) (set cmds i (v .command)) (i + 1)
   voicing-again i v y w l e =
       record {
         low = omega arith;
+        depths = w .depths;
         worked = part-again _ _ _ _ _ i (channelCount m) _ (w .worked) l (y .channels) (ap (λ (x : Voiced). x .channel) e);
         told = part-again _ _ _ _ _ i (channelCount m) _ (w .told) l (y .channels) (ap (λ (x : Voiced). x .command) e);
       }

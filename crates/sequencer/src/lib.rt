@@ -2,12 +2,16 @@
 // numbers are handed to it beside the song.
 ghost use mathlib.Core.Path.{_≡_};
 ghost use Prim.Native.Nat.{_<_};
+ghost use Rattle.common.specs.Limits.{width};
 ghost use Rattle.ticks.specs.Commands.{soundingOf};
 ghost use Rattle.reader.specs.Layouts.{LegalLayout};
 ghost use Rattle.sequencer.specs.LegalFacts.{LegalTime, LegalSong};
 ghost use Rattle.reader.specs.Judge.{verdict};
+ghost use Rattle.effects.specs.Commands.{voiced};
+ghost use Rattle.effects.specs.LegalFacts.{LegalDepths};
+ghost use Rattle.sequencer.specs.Row.{cellOn};
 ghost use Rattle.reader.specs.File.{lent, songLength};
-ghost use Rattle.sequencer.specs.Songs.{courseFrom, freshSong, voicedOn, allVoiced, tickWith, tickOf};
+ghost use Rattle.sequencer.specs.Songs.{courseFrom, freshSong, allVoiced, tickWith, tickOf};
 use common::limits::WIDTH;
 use effects::Channel;
 use effects::Voiced;
@@ -128,20 +132,29 @@ pub fn fresh() -> Song
     }
 }
 
-fn voiced_on(layout: Layout, file: &[u8], song: Song, sounding: [u32; WIDTH], i: usize) -> Voiced
+// Channel i at tick u of a row, with t = u mod speed, from what it is before and the sample that its voice has.
+fn voiced_on(
+    layout: Layout,
+    file: &[u8],
+    at: Place,
+    u: u32,
+    t: u32,
+    channel: Channel,
+    sounding: u32,
+    i: usize,
+) -> Voiced
     requires layout { ⌜ LegalLayout layout ⌝ }
-    requires channel { ⌜ i < layout .channels ⌝ }
-    requires legal { ⌜ LegalSong (songLength (lent layout (now file))) layout song ⌝ }
-    ensures { λ r. ⌜ r ≡ voicedOn (lent layout (now (file .entry))) song sounding i ⌝ }
+    requires channel { ⌜ i < width ⌝ }
+    requires depths { ⌜ LegalDepths channel ⌝ }
+    ensures { λ r. ⌜ r ≡ voiced (now (file .entry)) (cellOn (lent layout (now (file .entry))) at i) u t channel sounding ⌝ }
 {
-    let channels = song.channels;
     effects::commands::voiced(
         file,
-        row::cell_on(layout, file, song.course.at, i),
-        song.time.tick,
-        song.time.tick % song.time.speed,
-        channels[i],
-        sounding[i],
+        row::cell_on(layout, file, at, i),
+        u,
+        t,
+        channel,
+        sounding,
     )
 }
 
@@ -150,6 +163,8 @@ fn all_voiced(layout: Layout, file: &[u8], song: Song, sounding: [u32; WIDTH]) -
     requires legal { ⌜ LegalSong (songLength (lent layout (now file))) layout song ⌝ }
     ensures { λ r. ⌜ r ≡ allVoiced (lent layout (now (file .entry))) song sounding ⌝ }
 {
+    let u = song.time.tick;
+    let t = u % song.time.speed;
     let channel = effects::fresh_channel();
     let mut channels = [channel; WIDTH];
     let nothing = Command {
@@ -162,7 +177,16 @@ fn all_voiced(layout: Layout, file: &[u8], song: Song, sounding: [u32; WIDTH]) -
     let mut commands = [nothing; WIDTH];
     let mut i = 0;
     while i < layout.channels {
-        let voiced = voiced_on(layout, file, song, sounding, i);
+        let voiced = voiced_on(
+            layout,
+            file,
+            song.course.at,
+            u,
+            t,
+            song.channels[i],
+            sounding[i],
+            i,
+        );
         let channel = voiced.channel;
         channels[i] = channel;
         let command = voiced.command;
