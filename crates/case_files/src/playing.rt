@@ -8,9 +8,9 @@ use common::limits::GREATEST_TEMPO;
 use common::limits::WIDTH;
 use libc::STDOUT_FILENO;
 use player::State;
+use runs::FRAME_NUMBERS;
 use sequencer::Song;
 use voice::Voice;
-use voice::mix::FRAME_NUMBERS;
 
 // How many ticks of each file are played.
 const TICKS: u32 = 48;

@@ -14,9 +14,9 @@ use common::limits::SAMPLE_NUMBERS;
 use common::limits::WIDTH;
 use reader::Extent;
 use reader::Layout;
+use runs::FRAME_NUMBERS;
 use ticks::Tick;
 use voice::Voice;
-use voice::mix::FRAME_NUMBERS;
 
 // A voice for each channel, the tempo of the tick before and the remainder that it left.
 pub struct Machine {
@@ -110,7 +110,7 @@ pub fn play_tick(
     }
     let voices = machine.voices;
     let commands = tick.commands;
-    let moved = voice::mix::mix(layout, file, extents, voices, commands, frames, out);
+    let moved = mixing::mix(layout, file, extents, voices, commands, frames, out);
     let next = Machine {
         voices: moved,
         tempo: tick.tempo,

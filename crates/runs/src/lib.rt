@@ -9,8 +9,8 @@ ghost use Rattle.runs.specs.Cells.{stride, numbersFrom, laidFrom, stored
 ghost use Rattle.runs.specs.Lines.{Line, Table, half16, quarter16, Roomy, tableAt, pairAt};
 use common::bytes::wide;
 
-// A side's cells are every second one.
-const STRIDE: usize = 2;
+// How many numbers a frame takes, left and right: the cells of a side are every second one.
+pub const FRAME_NUMBERS: usize = 2;
 
 // How many parts a byte has.
 const PARTS: usize = 65536;
@@ -37,7 +37,7 @@ pub fn store_zeros(count: usize, out: &mut [i16], at: usize)
 {
     let mut k = 0;
     while k < count {
-        let cell = at + STRIDE * k;
+        let cell = at + FRAME_NUMBERS * k;
         out[cell] = 0;
         k += 1;
     }
@@ -96,7 +96,7 @@ pub fn store_pair(
     let mut places = fa + HALF_64 * fb;
     let mut k = 0;
     while k < count {
-        let cell = at + STRIDE * k;
+        let cell = at + FRAME_NUMBERS * k;
         let i = places % HALF_64 / PARTS;
         let j = places / HALF_64 / PARTS;
         let y = sum(look(ta, a[i]), look(tb, b[j]));
@@ -125,7 +125,7 @@ pub fn add_line(
     let mut place = fa;
     let mut k = 0;
     while k < count {
-        let cell = at + STRIDE * k;
+        let cell = at + FRAME_NUMBERS * k;
         let i = place / PARTS;
         let x = out[cell];
         let y = add(x, ta, a[i]);

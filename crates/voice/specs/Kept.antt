@@ -1,11 +1,12 @@
--- What a command and a frame's step keep: a voice's sample and volume, and its legality.
+-- What a command and a frame's step keep: a voice's sample and volume, all of a silent voice, and legality.
 -- Assumes nothing.
-use mathlib.Core.Path.{_≡_, refl, sym, subst}
-use mathlib.Core.Bool.{false, _||_}
+use mathlib.Core.Path.{_≡_, refl, sym, ap, subst, _∙_}
+use mathlib.Core.Bool.{true, false, _||_}
 use Prim.Native.Nat.{ℕ, zero, suc, _+_, _-_, _*_, _≤_, _<_}
 use native.Mathlib.Omega.{arith}
 use native.Mathlib.Nat.{div-lt-iff-lt-mul}
 use lib.Dec.{T, ltb, eqb}
+use lib.IntN.{pos}
 use borrow.Author.Tests.{ltb-true, eqb-false}
 use Rattle.laws.specs.Tests.{or-parts}
 use Rattle.laws.specs.Choice.{either}
@@ -17,8 +18,8 @@ use Rattle.ticks.specs.declared.Command.{Command}
 use Rattle.ticks.specs.Legal.{LegalCommand}
 use Rattle.reader.specs.Samples.{Sample}
 use Rattle.voice.specs.declared.Voice.{Voice}
-use Rattle.voice.specs.Voice.{freshVoice, placedAt, stoppedOf, arriveAt, started, silentOf, growthOf, carried, stepOf, registered, toldOf, palClock, fractions, rateTenths}
-use Rattle.voice.specs.Frames.{stepsOf}
+use Rattle.voice.specs.Voice.{freshVoice, placedAt, stoppedOf, arriveAt, started, silentOf, givesOf, growthOf, carried, stepOf, registered, toldOf, palClock, fractions, rateTenths}
+use Rattle.voice.specs.Frames.{stepsOf, givesAt}
 
 -- ---- what holds of a voice sounding anywhere and of the voice stopped
 module _ (P : Voice → Type 0) (s : Sample) (v : Voice) (placed : (i f : ℕ) → P (placedAt i f v)) (stopped : P (stoppedOf v)) where
@@ -59,6 +60,16 @@ module _ (s : Sample) (v : Voice) where
   unfolding stepsOf
   steps-period zero = refl
   steps-period (suc k) = step-keeps (λ (w : Voice). w .period ≡ v .period) s (stepsOf s k v) (λ i f. steps-period k) (steps-period k) (steps-period k)
+
+-- ---- a silent voice stays, and gives 0
+pub silent-steps : (s : Sample) (k : ℕ) (v : Voice) → silentOf v ≡ true → stepsOf s k v ≡ v
+unfolding stepsOf stepOf
+silent-steps s zero v h = refl
+silent-steps s (suc k) v h = ap (stepOf s) (silent-steps s k v h) ∙ rw h
+
+pub silent-gives : (s : Sample) (v : Voice) → silentOf v ≡ true → (j : ℕ) → givesAt s v j ≡ pos 0
+unfolding givesOf
+silent-gives s v h j = ap (givesOf (s .bytes)) (silent-steps s j v h) ∙ rw h
 
 -- ---- a voice that sounds
 pub loud-has : (v : Voice) → silentOf v ≡ false → (v .stopped ≡ false) × ((v .sample ≡ 0 → ⊥) × (v .period ≡ 0 → ⊥))

@@ -1,0 +1,56 @@
+-- No voice sounds: the frames are zeros. Otherwise the two sides, one after the other, are the frames, and their voices together all that moved.
+use borrow.Author.Needs.{needs}
+use Rattle.laws.specs.Tests.{called}
+use Rattle.mixing.proofs.Mixing.{scale-legal, samples-known, offsets-low, told-sounding, left-sounding, sides-mixed, sides-moved, silent-moved, silent-mixed}
+use Rattle.mixing.proofs.mix.Statement.{statement}
+use Rattle.mixing.proofs.mix.Tie as tie
+
+named-requires : tie.Need-named-requires
+named-requires c κs = let p = c .before .pre in (p .0 .channels, samples-known _ _ _ _ _ (p .0) (p .1 .0))
+
+tell-requires : tie.Need-tell-requires
+tell-requires c κs = let p = c .before .before .pre in (p .0 .channels, offsets-low _ _ _ _ _ (p .0) (p .1 .0))
+
+returns : tie.Need-returns
+returns c =
+    let p = c .before .before .before .before .before .before .before .before .pre in
+    let f = c .before .before .before .before .before .before .named .ensures in
+    let t = c .before .before .before .before .before .tell .ensures in
+    let q = called _ _ _ (c .before .before .before .before .quiet .ensures) (c .before .before .before .if1 .taken) in
+    (silent-moved _ _ _ _ _ (p .0) (p .1 .0) _ _ f t q _, silent-mixed _ _ _ _ _ (p .0) (p .1 .0) _ _ f t q _ _ _ (c .before .clear .ensures))
+
+mix-side-requires : tie.Need-mix-side-requires
+mix-side-requires c κs =
+    let p = c .before .before .before .before .before .before .before .pre in
+    (told-sounding _ _ _ _ _ (p .0) (p .1 .0) _ _ (c .before .before .before .before .before .named .ensures) (c .before .before .before .before .tell .ensures), (scale-legal _ _ _ _ _ (p .0) (p .1 .0) _ (c .before .scale .ensures), (search needs, p .1 .1)))
+
+mix-side-requires-2 : tie.Need-mix-side-requires-2
+mix-side-requires-2 c κs =
+    let p = c .before .before .before .before .before .before .before .before .before .before .pre in
+    (left-sounding _ _ _ _ _ (p .0) (p .1 .0) _ _ (c .before .before .before .before .before .before .before .before .named .ensures) (c .before .before .before .before .before .before .before .tell .ensures) _ _ (c .before .before .mix-side .ensures .0), (scale-legal _ _ _ _ _ (p .0) (p .1 .0) _ (c .before .before .before .before .scale .ensures), (search needs, search needs)))
+
+returns-2 : tie.Need-returns-2
+returns-2 c =
+    let p = c .before .before .before .before .before .before .before .before .before .before .before .before .pre in
+    let f = c .before .before .before .before .before .before .before .before .before .before .named .ensures in
+    let t = c .before .before .before .before .before .before .before .before .before .tell .ensures in
+    let l = c .before .before .before .before .mix-side .ensures in
+    let r = c .before .mix-side2 .ensures in
+    (sides-moved _ _ _ _ _ (p .0) (p .1 .0) _ _ f t _ _ (l .0) _ (r .0), sides-mixed _ _ _ _ _ (p .0) (p .1 .0) _ _ f t _ _ (l .0) _ _ _ _ (c .before .before .before .before .before .before .scale .ensures) (p .1 .1) (l .1) (r .1))
+
+pub mix-spec : {M : Type 1} → statement M
+mix-spec =
+    tie.close
+    (tie.spec
+    named-requires
+    tell-requires
+    (λ c κs. search needs)
+    (λ c. search needs)
+    (λ c κs. search needs)
+    (λ c. search needs)
+    returns
+    (λ c κs. search needs)
+    mix-side-requires
+    mix-side-requires-2
+    (λ c. search needs)
+    returns-2)

@@ -1,8 +1,0 @@
--- A run's limit is past its first byte; the smaller of two numbers by a test.
-use borrow.Author.Needs.{needs}
-use Rattle.voice.proofs.Lines.{limit-past, ahead-near, ahead-far}
-use Rattle.voice.proofs.run.ahead.Statement.{statement}
-use Rattle.voice.proofs.run.ahead.Tie as tie
-
-pub ahead-spec : {M : Type 1} → statement M
-ahead-spec = tie.close (tie.spec (λ c κs. search needs) (λ c. search (limit-past, needs)) (λ c. search (ahead-near, needs)) (λ c. search (ahead-far, needs)))

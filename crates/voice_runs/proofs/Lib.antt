@@ -1,0 +1,4 @@
+pub mod Lines
+pub mod Tables
+pub mod Pairing
+pub mod Adding

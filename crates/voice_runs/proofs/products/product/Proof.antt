@@ -1,0 +1,10 @@
+-- A signed byte is below 128 and a weight at most 128, so that the product fits.
+use borrow.Author.Needs.{needs}
+use Rattle.voice_runs.proofs.Tables.{product-fits, product-is, product-range}
+use Rattle.voice_runs.proofs.products.product.Statement.{statement}
+use Rattle.voice_runs.proofs.products.product.Tie as tie
+
+pub product-spec : {M : Type 1} → statement M
+product-spec =
+    tie.close
+    (tie.spec (λ c. search needs) (λ c κs. search needs) (λ c. search needs) (λ c. search (product-fits, needs)) (λ c. search (product-is, product-range, needs)))
