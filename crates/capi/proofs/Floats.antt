@@ -1,12 +1,10 @@
--- What a call's equation says of the record's cells, and of the others that it leaves. Laws over plain variables.
+-- What a float call's equation says of the record's cells, and of the others that it leaves. Laws over plain variables.
 -- Assumes nothing.
 use Prim.Native.Nat.{ℕ}
 use mathlib.Core.Path.{_≡_, ap, _∙_}
-use mathlib.Core.List.{List, [], _∷_}
+use mathlib.Core.List.{List}
 use lib.Ieee.{Float}
-use borrow.Author.Tests.{eq-eqb, ne-eqb}
 use Rattle.common.specs.Answers.{Outcome, outcome}
-use Rattle.common.specs.declared.Answer.{Answer}
 use Rattle.floats.specs.declared.Pair.{Pair}
 use Rattle.player.specs.declared.State.{State}
 use Rattle.cells.specs.Cells.{stateOf}
@@ -14,26 +12,9 @@ use Rattle.float_player.specs.declared.FloatReply.{FloatReply}
 use Rattle.float_player.specs.Play.{playFloatsOf}
 use Rattle.float_board.specs.declared.FloatAnswer.{FloatAnswer}
 use Rattle.float_board.specs.Board.{playStreamFloatsOf}
-use Rattle.capi.specs.Answers.{answerCells, cellsAfter}
-use Rattle.capi.specs.Floats.{pairIn, pairAfter, pairTickAfter, floatsOn, streamFloatsOn}
-
--- ---- the record's cells, by whether the call refused
-module _ (a : Answer) (pair : Pair) (cells : List Float) (tick : ℕ) where
-  pub kept-pair : (a .number ≡ 0 → ⊥) → cells ≡ pairAfter a pair cells
-  unfolding pairAfter
-  kept-pair h = rw (ne-eqb (a .number) 0 h)
-
-  pub kept-tick : (a .number ≡ 0 → ⊥) → tick ≡ pairTickAfter a pair tick
-  unfolding pairTickAfter
-  kept-tick h = rw (ne-eqb (a .number) 0 h)
-
-  pub new-pair : a .number ≡ 0 → (pair .left ∷ pair .right ∷ []) ≡ pairAfter a pair cells
-  unfolding pairAfter
-  new-pair h = rw (eq-eqb (a .number) 0 h)
-
-  pub new-tick : a .number ≡ 0 → pair .tick ≡ pairTickAfter a pair tick
-  unfolding pairTickAfter
-  new-tick h = rw (eq-eqb (a .number) 0 h)
+use Rattle.replies.specs.Answers.{answerCells, cellsAfter}
+use Rattle.replies.specs.Pairs.{pairIn, pairAfter, pairTickAfter}
+use Rattle.capi.specs.Floats.{floatsOn, streamFloatsOn}
 
 -- ---- the player's call
 module _ (bytes state : List ℕ) (n sides : ℕ) (pair : List Float) (tick : ℕ) (out out′ : List Float) (s : State) (se : s ≡ stateOf state) (old : Pair) (oe : old ≡ pairIn pair tick) (r : FloatReply) (e : outcome r out′ ≡ playFloatsOf bytes s n sides old out) where

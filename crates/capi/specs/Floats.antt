@@ -1,35 +1,20 @@
--- What the C calls read of, and leave in, the cells of the record of the last left and right: two floats, and their tick beside them.
+-- The float calls, on the cells that the C calls are lent.
 -- Assumes nothing.
 use Prim.Native.Nat.{ℕ}
-use mathlib.Core.Bool.{cond}
-use mathlib.Core.List.{List, [], _∷_}
-use lib.Dec.{eqb}
-use lib.ListN.{getD}
-use lib.Ieee.{Float, nan}
+use mathlib.Core.List.{List}
+use lib.Ieee.{Float}
 use Rattle.common.specs.Answers.{Outcome}
-use Rattle.common.specs.declared.Answer.{Answer}
-use Rattle.floats.specs.declared.Pair.{Pair}
 use Rattle.cells.specs.Cells.{stateOf}
 use Rattle.float_player.specs.declared.FloatReply.{FloatReply}
 use Rattle.float_player.specs.Play.{playFloatsOf}
 use Rattle.float_board.specs.declared.FloatAnswer.{FloatAnswer}
 use Rattle.float_board.specs.Board.{playStreamFloatsOf}
+use Rattle.replies.specs.Pairs.{pairIn}
 
--- the record in cells
-abbrev pub pairIn : List Float → ℕ → Pair
-pairIn cells tick = record { left = getD cells 0 nan; right = getD cells 1 nan; tick = tick }
-
--- the record's two floats after the call; on a refusal both cells stay
-unfoldable pub pairAfter : Answer → Pair → List Float → List Float
-pairAfter a pair cells = cond (eqb (a .number) 0) (pair .left ∷ pair .right ∷ []) cells
-
--- and its tick
-unfoldable pub pairTickAfter : Answer → Pair → ℕ → ℕ
-pairTickAfter a pair tick = cond (eqb (a .number) 0) (pair .tick) tick
-
--- ---- the calls, on cells
+-- the player's call
 abbrev pub floatsOn : List ℕ → List ℕ → ℕ → ℕ → List Float → ℕ → List Float → Outcome FloatReply Float
 floatsOn bytes state n sides pair tick out = playFloatsOf bytes (stateOf state) n sides (pairIn pair tick) out
 
+-- the stream player's
 abbrev pub streamFloatsOn : List ℕ → List ℕ → ℕ → List Float → ℕ → List Float → Outcome FloatAnswer Float
 streamFloatsOn bytes stream sides pair tick out = playStreamFloatsOf bytes stream sides (pairIn pair tick) out

@@ -10,65 +10,21 @@ ghost use Rattle.player.specs.Quiet.{whyQuietOf, whyAnswer};
 ghost use Rattle.cells.specs.Cells.{stateCells, stateOf};
 ghost use Rattle.translator.specs.Translate.{translateOf};
 ghost use Rattle.board.specs.Board.{playStreamOf};
-ghost use Rattle.capi.specs.Answers.{answerCells, cellsAfter};
-ghost use Rattle.capi.specs.Floats.{pairIn, pairAfter, pairTickAfter, floatsOn, streamFloatsOn};
+ghost use Rattle.replies.specs.Answers.{answerCells, cellsAfter};
+ghost use Rattle.replies.specs.Pairs.{pairAfter, pairTickAfter};
+ghost use Rattle.capi.specs.Floats.{floatsOn, streamFloatsOn};
 ghost use Rattle.capi.specs.Version.{libraryVersion};
 use cells::CELLS;
-use common::Answer;
-use floats::Pair;
-use player::Reply;
-use player::Why;
+use replies::ANSWER_CELLS;
+use replies::PAIR_CELLS;
+use replies::pair_of;
+use replies::put_answer;
+use replies::put_pair;
+use replies::put_reply;
+use replies::why_answer;
 
 // Major times 1,000,000, plus minor times 1,000, plus patch.
 const VERSION: u32 = 4000;
-
-// An answer's cells.
-const ANSWER_CELLS: usize = 3;
-
-// A record's two floats.
-const PAIR_CELLS: usize = 2;
-
-fn put_answer(a: Answer, answer: &mut [u64; ANSWER_CELLS])
-    ensures { λ _. ⌜ now (answer .exit) ≡ answerCells a ⌝ }
-{
-    *answer = [a.number as u64, a.place as u64, a.count as u64];
-}
-
-// A refusal writes the answer alone.
-fn put_reply(reply: Reply, state: &mut [u32; CELLS], answer: &mut [u64; ANSWER_CELLS])
-    ensures answered { λ _. ⌜ now (answer .exit) ≡ answerCells (reply .answer) ⌝ }
-    ensures stated { λ _. ⌜ now (state .exit) ≡ cellsAfter reply (now (state .entry)) ⌝ }
-{
-    put_answer(reply.answer, answer);
-    if reply.answer.number != 0 {
-        return;
-    }
-    let after = reply.state;
-    *state = cells::cells_of(after);
-}
-
-// The record of the last left and right in cells.
-fn pair_of(cells: [f32; PAIR_CELLS], tick: u32) -> Pair
-    ensures { λ r. ⌜ r ≡ pairIn cells tick ⌝ }
-{
-    Pair {
-        left: cells[0],
-        right: cells[1],
-        tick: tick,
-    }
-}
-
-// A refusal leaves the record's cells.
-fn put_pair(a: Answer, last: Pair, pair: &mut [f32; PAIR_CELLS], tick: &mut u32)
-    ensures paired { λ _. ⌜ now (pair .exit) ≡ pairAfter a last (now (pair .entry)) ⌝ }
-    ensures ticked { λ _. ⌜ now (tick .exit) ≡ pairTickAfter a last (now (tick .entry)) ⌝ }
-{
-    if a.number != 0 {
-        return;
-    }
-    *pair = [last.left, last.right];
-    *tick = last.tick;
-}
 
 // The version of the library that is linked.
 #[no_mangle]
@@ -166,16 +122,6 @@ pub extern "C" fn lampthistle_change_page(
 {
     let reply = player::change_page(file, cells::state_of(state));
     put_reply(reply, state, answer);
-}
-
-// The count is the cause's number.
-fn why_answer(why: Why) -> Answer
-    ensures { λ r. ⌜ r ≡ whyAnswer why ⌝ }
-{
-    match why {
-        Why::Refused(a) => a,
-        Why::Because(c) => common::accept(voice::quiet::cause_number(c)),
-    }
 }
 
 // Why a channel is quiet.

@@ -9,8 +9,8 @@ use Rattle.player.specs.declared.Why.{Why}
 use Rattle.player.specs.declared.Why.the-variants.{Because}
 use Rattle.player.specs.Quiet.{whyAnswer}
 use borrow.Author.Needs.{needs}
-use Rattle.capi.proofs.why_answer.Statement.{statement}
-use Rattle.capi.proofs.why_answer.Tie as tie
+use Rattle.replies.proofs.why_answer.Statement.{statement}
+use Rattle.replies.proofs.why_answer.Tie as tie
 
 counted : (why : Why) (c : Cause) (n : ℕ) (a : Answer) → why ≡ Because c → n ≡ causeNumber c → a ≡ accepted n → a ≡ whyAnswer why
 counted why c n a e q p = rw (e, ← q) p

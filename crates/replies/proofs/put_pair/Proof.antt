@@ -1,8 +1,8 @@
 -- The record's cells are the last left and right and their tick, or on a refusal those that were there.
-use Rattle.capi.proofs.Floats.{kept-pair, kept-tick, new-pair, new-tick}
+use Rattle.replies.proofs.Refusals.{kept-pair, kept-tick, new-pair, new-tick}
 use borrow.Author.Needs.{needs}
-use Rattle.capi.proofs.put_pair.Statement.{statement}
-use Rattle.capi.proofs.put_pair.Tie as tie
+use Rattle.replies.proofs.put_pair.Statement.{statement}
+use Rattle.replies.proofs.put_pair.Tie as tie
 
 returns : tie.Need-returns
 returns c = (search (kept-pair, needs), search (kept-tick, needs))

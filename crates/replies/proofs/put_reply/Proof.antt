@@ -1,8 +1,8 @@
 -- The answer is the reply's; the state's cells are its state's, or on a refusal those that were there.
-use Rattle.capi.proofs.Calls.{kept-cells, new-cells}
+use Rattle.replies.proofs.Refusals.{kept-cells, new-cells}
 use borrow.Author.Needs.{needs}
-use Rattle.capi.proofs.put_reply.Statement.{statement}
-use Rattle.capi.proofs.put_reply.Tie as tie
+use Rattle.replies.proofs.put_reply.Statement.{statement}
+use Rattle.replies.proofs.put_reply.Tie as tie
 
 returns : tie.Need-returns
 returns c = (search needs, search (kept-cells, needs))
