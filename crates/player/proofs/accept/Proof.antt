@@ -4,4 +4,4 @@ use Rattle.player.proofs.accept.Statement.{statement}
 use Rattle.player.proofs.accept.Tie as tie
 
 pub accept-spec : {M : Type 1} → statement M
-accept-spec = tie.close (tie.spec (λ c κs. search needs) (λ c. cc))
+accept-spec = tie.close (tie.spec (λ c κs. search needs) (λ c. rw (c .accept .ensures)))

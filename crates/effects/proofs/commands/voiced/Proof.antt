@@ -13,4 +13,4 @@ voiced-spec =
     (λ c κs. search needs)
     (λ c κs. search needs)
     (λ c κs. search (depths-kept, needs))
-    (λ c. cc))
+    (λ c. rw (c .voiced-by .ensures, c .before .start-for .ensures, c .before .before .worked .ensures)))

@@ -6,4 +6,4 @@ use Rattle.effects.proofs.commands.voiced_by.Tie as tie
 
 pub voiced-by-spec : {M : Type 1} → statement M
 unfolding voicedBy
-voiced-by-spec = tie.close (tie.spec (λ c κs. search needs) (λ c κs. search needs) (λ c. cc))
+voiced-by-spec = tie.close (tie.spec (λ c κs. search needs) (λ c κs. search needs) (λ c. rw (c .command-of .ensures, c .before .after-sound .ensures)))

@@ -14,4 +14,4 @@ legal-channel-spec =
     (λ c κs. search needs)
     (λ c κs. search needs)
     (λ c κs. search needs)
-    (λ c. cc))
+    (λ c. rw (c .before .before .before .legal-wave2 .ensures, c .before .before .before .before .legal-wave .ensures, c .before .before .before .before .before .is-period2 .ensures, c .before .before .before .before .before .before .is-period .ensures)))

@@ -6,7 +6,7 @@ use Rattle.player.proofs.moves.touched_at.Tie as tie
 
 returns : tie.Need-returns
 unfolding touchedAt
-returns c = cc
+returns c = rw (c .course-from .ensures)
 
 pub touched-at-spec : {M : Type 1} → statement M
 touched-at-spec = tie.close (tie.spec (λ c κs. search needs) returns)

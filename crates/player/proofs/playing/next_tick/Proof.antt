@@ -4,4 +4,4 @@ use Rattle.player.proofs.playing.next_tick.Statement.{statement}
 use Rattle.player.proofs.playing.next_tick.Tie as tie
 
 pub next-tick-spec : {M : Type 1} → statement M
-next-tick-spec = tie.close (tie.spec (λ c κs. search needs) (λ c κs. search needs) (λ c. cc))
+next-tick-spec = tie.close (tie.spec (λ c κs. search needs) (λ c κs. search needs) (λ c. rw (c .tick .ensures, c .before .soundings .ensures)))

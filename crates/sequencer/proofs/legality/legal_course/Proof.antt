@@ -13,4 +13,4 @@ legal-course-spec =
     (λ c κs. search needs)
     (λ c κs. search needs)
     (λ c κs. search needs)
-    (λ c. cc))
+    (λ c. rw (c .legal-loop .ensures, c .before .legal-place2 .ensures, c .before .before .legal-place .ensures)))

@@ -13,4 +13,4 @@ advanced-spec =
     (λ c κs. search needs)
     (λ c κs. search needs)
     (λ c κs. search needs)
-    (λ c. cc))
+    (λ c. rw (c .desk-after .ensures, c .before .time-to .ensures, c .before .before .course-to .ensures, c .before .before .before .next-tick .ensures)))

@@ -11,4 +11,4 @@ course-by-spec =
     (tie.spec
     (λ c κs. search needs)
     (λ c κs. search needs)
-    (λ c. cc))
+    (λ c. rw (c .loop-after .ensures, c .before .next-of .ensures)))

@@ -6,4 +6,4 @@ use Rattle.sequencer.proofs.next.desk_after.Tie as tie
 
 pub desk-after-spec : {M : Type 1} → statement M
 unfolding deskAfter
-desk-after-spec = tie.close (tie.spec (λ c κs. search needs) (λ c. cc))
+desk-after-spec = tie.close (tie.spec (λ c κs. search needs) (λ c. rw (c .wrapping-add-u32 .ensures)))

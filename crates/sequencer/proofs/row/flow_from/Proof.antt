@@ -6,4 +6,4 @@ use Rattle.sequencer.proofs.row.flow_from.Tie as tie
 
 pub flow-from-spec : {M : Type 1} → statement M
 unfolding flowFrom
-flow-from-spec = tie.close (tie.spec (λ c κs. search needs) (λ c. cc))
+flow-from-spec = tie.close (tie.spec (λ c κs. search needs) (λ c. rw (c .following .ensures)))

@@ -12,4 +12,4 @@ row-time-spec =
     (λ c κs. search needs)
     (λ c κs. search needs)
     (λ c κs. search needs)
-    (λ c. cc))
+    (λ c. rw (c .row-tempo .ensures, c .before .row-speed .ensures, c .before .before .row-delay .ensures)))
