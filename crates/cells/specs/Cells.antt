@@ -1,13 +1,13 @@
 -- A state as cells, plain numbers at the C boundary: a song's, then each channel's, its own and its voice's.
 -- Assumes nothing.
-use Prim.Native.Nat.{ℕ, zero, suc, _+_, _*_}
+use Prim.Native.Nat.{ℕ, zero, suc, _+_, _*_, min}
 use mathlib.Core.Bool.{cond}
 use mathlib.Core.List.{List, [], _∷_, _++_}
 use lib.ListN.{getD}
 use lib.Dec.{eqb, ltb}
 use Rattle.laws.specs.Ranges.{each}
 use Rattle.common.specs.Bytes.{bit}
-use Rattle.common.specs.Limits.{width, sampleNumbers}
+use Rattle.common.specs.Limits.{width, lastByte, sampleNumbers}
 use Rattle.motion.specs.declared.Wave.{Wave}
 use Rattle.effects.specs.declared.Channel.{Channel}
 use Rattle.effects.specs.Legal.{freshChannel}
@@ -101,9 +101,19 @@ unfoldable pub stateCells : State → List ℕ
 stateCells s = songCells (s .song) (s .remainder) ++ joined (cellsAt (s .song .channels) (s .voices)) width
 
 -- ---- from cells
+-- a wave's number is a byte; a larger cell gives 255, which no legal wave has
+unfoldable pub waveNumber : ℕ → ℕ
+waveNumber n = min n lastByte
+
 -- a wave, from a place on
 abbrev pub waveOf : List ℕ → ℕ → Wave
-waveOf l at = record { x = getD l at 0; y = getD l (at + 1) 0; place = getD l (at + 2) 0; form = getD l (at + 3) 0 }
+waveOf l at =
+    record {
+      x = waveNumber (getD l at 0);
+      y = waveNumber (getD l (at + 1) 0);
+      place = waveNumber (getD l (at + 2) 0);
+      form = waveNumber (getD l (at + 3) 0);
+    }
 
 -- a channel's own numbers, from a place on
 abbrev pub channelOf : List ℕ → ℕ → Channel

@@ -5,7 +5,8 @@ ghost use lib.ListN.{length};
 ghost use lib.Seq.{sets};
 ghost use Rattle.laws.specs.Ranges.{each};
 ghost use Rattle.common.specs.Limits.{width};
-ghost use Rattle.cells.specs.Cells.{waveCellCount, ownCellCount, voiceCellCount, channelCellCount, cellCount, channelPlace, songCells, channelCells, stateCells, waveOf, channelOf, sampleBy, voiceOf, songOf, stateOf};
+ghost use Rattle.cells.specs.Cells.{waveCellCount, ownCellCount, voiceCellCount, channelCellCount, cellCount, channelPlace, songCells, channelCells, stateCells, waveNumber, waveOf, channelOf, sampleBy, voiceOf, songOf, stateOf};
+use common::limits::LAST_BYTE;
 use common::limits::SAMPLE_NUMBERS;
 use common::limits::WIDTH;
 use effects::Channel;
@@ -78,20 +79,22 @@ fn put_channel(channel: Channel, voice: Voice, at: usize, cells: &mut [u32; CELL
     requires { ⌜ at + channelCellCount ≤ cellCount ⌝ }
     ensures { λ _. ⌜ now (cells .exit) ≡ sets (now (cells .entry)) at (channelCells channel voice) ⌝ }
 {
+    let vibrato = channel.vibrato;
+    let tremolo = channel.tremolo;
     let run = [
         channel.latched,
         channel.volume,
         channel.period,
         channel.target,
         channel.memory,
-        channel.vibrato.x,
-        channel.vibrato.y,
-        channel.vibrato.place,
-        channel.vibrato.form,
-        channel.tremolo.x,
-        channel.tremolo.y,
-        channel.tremolo.place,
-        channel.tremolo.form,
+        vibrato.x as u32,
+        vibrato.y as u32,
+        vibrato.place as u32,
+        vibrato.form as u32,
+        tremolo.x as u32,
+        tremolo.y as u32,
+        tremolo.place as u32,
+        tremolo.form as u32,
         voice.sample,
         voice.period,
         voice.volume,
@@ -122,16 +125,27 @@ pub fn cells_of(state: State) -> [u32; CELLS]
     cells
 }
 
+// A wave's number is a byte: a larger cell gives 255, which no legal wave has.
+fn wave_number(cell: u32) -> u8
+    ensures { λ r. ⌜ r ≡ waveNumber cell ⌝ }
+{
+    if cell < LAST_BYTE {
+        cell as u8
+    } else {
+        LAST_BYTE as u8
+    }
+}
+
 // The wave whose cells begin at a place.
 fn wave_of(cells: &[u32; CELLS], at: usize) -> Wave
     requires { ⌜ at + waveCellCount ≤ cellCount ⌝ }
     ensures { λ r. ⌜ r ≡ waveOf (now (cells .entry)) at ⌝ }
 {
     Wave {
-        x: cells[at],
-        y: cells[at + 1],
-        place: cells[at + 2],
-        form: cells[at + 3],
+        x: wave_number(cells[at]),
+        y: wave_number(cells[at + 1]),
+        place: wave_number(cells[at + 2]),
+        form: wave_number(cells[at + 3]),
     }
 }
 

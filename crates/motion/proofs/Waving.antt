@@ -35,7 +35,3 @@ module _ (up down : ℕ → ℕ → ℕ) (divisor : ℕ) (w : Wave) (n by r : �
   pub wavered-down : b ≡ false → r ≡ down n by → r ≡ wavered up down divisor w n
   unfolding wavered
   wavered-down t h = rw (← q, t, ← e) h
-
--- ---- the remainder of a sum
-pub around : (a b : ℕ) → (a % wholeWave + b % wholeWave) % wholeWave ≡ (a + b) % wholeWave
-around a b = omega arith

@@ -15,8 +15,8 @@ pub fn is_fresh_wave(wave: Wave) -> bool
 pub fn legal_wave(wave: Wave) -> bool
     ensures { λ r. ⌜ r ≡ legalWave wave ⌝ }
 {
-    (wave.x <= LAST_MEMORY)
-        & (wave.y <= LAST_MEMORY)
-        & (wave.place < WHOLE_WAVE)
-        & (wave.form <= SQUARE)
+    (wave.x as u32 <= LAST_MEMORY)
+        & (wave.y as u32 <= LAST_MEMORY)
+        & ((wave.place as u32) < WHOLE_WAVE)
+        & (wave.form as u32 <= SQUARE)
 }

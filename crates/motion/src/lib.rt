@@ -6,12 +6,12 @@ pub mod legal;
 pub mod slides;
 pub mod waves;
 
-// A wave of vibrato or tremolo: its x and y, from memory, its place and its form.
+// A wave of vibrato or tremolo: its x and y, from memory, its place and its form. Bytes, so that copying a channel stays cheap.
 pub struct Wave {
-    pub x: u32,
-    pub y: u32,
-    pub place: u32,
-    pub form: u32,
+    pub x: u8,
+    pub y: u8,
+    pub place: u8,
+    pub form: u8,
 }
 
 // A wave before its first tick.

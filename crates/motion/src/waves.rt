@@ -104,7 +104,7 @@ fn offset_size(divisor: u32, wave: Wave) -> u32
     requires depth { ⌜ wave .y ≤ lastMemory ⌝ }
     ensures { λ r. ⌜ r ≡ offsetSize divisor wave ⌝ }
 {
-    entry_size(wave.form, wave.place) * wave.y / divisor
+    entry_size(wave.form as u32, wave.place as u32) * wave.y as u32 / divisor
 }
 
 // A period under vibrato.
@@ -113,7 +113,7 @@ pub fn vibrated(wave: Wave, period: u32) -> u32
     ensures { λ r. ⌜ r ≡ vibrated wave period ⌝ }
 {
     let by = offset_size(VIBRATO_DIVISOR, wave);
-    if is_raising(wave.place) {
+    if is_raising(wave.place as u32) {
         raised(period, by)
     } else {
         lowered(period, by)
@@ -126,14 +126,14 @@ pub fn trembled(wave: Wave, volume: u32) -> u32
     ensures { λ r. ⌜ r ≡ trembled wave volume ⌝ }
 {
     let by = offset_size(TREMOLO_DIVISOR, wave);
-    if is_raising(wave.place) {
+    if is_raising(wave.place as u32) {
         louder(volume, by)
     } else {
         softer(volume, by)
     }
 }
 
-// The wave after a tick's sound, if the tick used it. The sum is of remainders, since any numbers may stand in a wave.
+// The wave after a tick's sound, if the tick used it.
 pub fn moved(used: bool, wave: Wave) -> Wave
     ensures { λ r. ⌜ r ≡ moved used wave ⌝ }
 {
@@ -141,7 +141,7 @@ pub fn moved(used: bool, wave: Wave) -> Wave
         return Wave {
             x: wave.x,
             y: wave.y,
-            place: (wave.place % WHOLE_WAVE + wave.x % WHOLE_WAVE) % WHOLE_WAVE,
+            place: ((wave.place as u32 + wave.x as u32) % WHOLE_WAVE) as u8,
             form: wave.form,
         };
     }

@@ -39,12 +39,19 @@ unfoldable pub badLoop : Module → ℕ → Bool
 badLoop m k = ltb 1 (loopLength (m .bytes) k) && ltb (sampleWords (m .bytes) k) (loopStart (m .bytes) k + loopLength (m .bytes) k)
 
 -- sample number: high nibble of b0, times 16, plus high nibble of b2
-abbrev pub numberAt : List ℕ → ℕ → ℕ
-numberAt xs at = byteAt xs at / 16 * 16 + byteAt xs (at + 2) / 16
+abbrev pub numberOf : ℕ → ℕ → ℕ
+numberOf b0 b2 = b0 / 16 * 16 + b2 / 16
 
 -- period: low nibble of b0, times 256, plus b1
+abbrev pub periodOf : ℕ → ℕ → ℕ
+periodOf b0 b1 = b0 % 16 * 256 + b1
+
+-- those of the cell at a place
+abbrev pub numberAt : List ℕ → ℕ → ℕ
+numberAt xs at = numberOf (byteAt xs at) (byteAt xs (at + 2))
+
 abbrev pub periodAt : List ℕ → ℕ → ℕ
-periodAt xs at = byteAt xs at % 16 * 256 + byteAt xs (at + 1)
+periodAt xs at = periodOf (byteAt xs at) (byteAt xs (at + 1))
 
 -- a cell's sample number above the last
 unfoldable pub badNumberAt : Module → ℕ → Bool

@@ -1,6 +1,6 @@
 -- What the functions of the song rest on: places and moves by their numbers, a row's few ticks, and the loops over the channels.
 -- Assumes nothing.
-use Prim.Native.Nat.{ℕ, _+_, _*_, _^_, _≤_, _<_}
+use Prim.Native.Nat.{ℕ, _+_, _*_, _%_, _^_, _≤_, _<_}
 use mathlib.Core.Path.{_≡_, refl, sym, _∙_, ap}
 use mathlib.Core.Bool.{true, false}
 use mathlib.Core.List.{List}
@@ -19,13 +19,16 @@ use Rattle.ticks.specs.declared.Command.{Command}
 use Rattle.reader.specs.File.{Module, lent, songLength, channelCount}
 use Rattle.reader.specs.Judge.{verdict}
 use Rattle.reader.specs.Accept.{accepted-has}
+use Rattle.reader.specs.Cells.{cellFrom}
 use Rattle.reader.specs.declared.Layout.{Layout}
 use Rattle.reader.specs.declared.Cell.{Cell}
+use Rattle.effects.specs.Commands.{voiced}
 use Rattle.effects.specs.Legal.{freshChannel}
 use Rattle.effects.specs.LegalFacts.{LegalDepths}
 use Rattle.effects.specs.declared.Channel.{Channel}
 use Rattle.effects.specs.declared.Voiced.{Voiced}
 use Rattle.sequencer.specs.Row.{cellOn, rowFlow, flowFrom, flowThrough}
+use Rattle.sequencer.specs.RowFacts.{BeginsAt, cell-there}
 use Rattle.sequencer.specs.Songs.{place, songBy, songWork, voicedOn, allVoiced, rowTicks, nextTick}
 use Rattle.sequencer.specs.Legal.{greatestSpeed, lastDelay}
 use Rattle.sequencer.specs.Kept.{work-kept}
@@ -34,6 +37,7 @@ use Rattle.sequencer.specs.declared.Time.{Time}
 use Rattle.sequencer.specs.declared.Move.{Move}
 use Rattle.sequencer.specs.declared.Flow.{Flow}
 use Rattle.sequencer.specs.declared.Song.{Song}
+use Rattle.sequencer.specs.declared.AllVoiced.{AllVoiced}
 use Rattle.ticks.specs.Commands.{nothing, soundingOf}
 use Rattle.reader.specs.Layouts.{LegalLayout}
 use Rattle.sequencer.specs.LegalFacts.{LegalTime, LegalSong}
@@ -80,9 +84,9 @@ module _ (m : Module) (at : Place) (f₀ : Flow) (positions : ℕ) where
   unfolding flowThrough
   flow-begin e = record { low = zero≤; length = e; flow = refl }
 
-  pub flow-again : (f g : Flow) (c : Cell) (i : ℕ) → Flowed m at f₀ positions f i → i < channelCount m → c ≡ cellOn m at i → g ≡ rowFlow positions (at .row) c f → Flowed m at f₀ positions g (i + 1)
+  pub flow-again : (f g : Flow) (c : Cell) (row i : ℕ) → BeginsAt m at row → Flowed m at f₀ positions f i → i < channelCount m → c ≡ cellFrom (m .bytes) (row + 4 * i) → g ≡ rowFlow positions (at .row) c f → Flowed m at f₀ positions g (i + 1)
   unfolding flowThrough
-  flow-again f g c i w l e q = record { low = omega arith; length = w .length; flow = rw (add-one, ← e, ← w .flow, ← w .length) q }
+  flow-again f g c row i b w l e q = record { low = omega arith; length = w .length; flow = rw (add-one, ← cell-there m at row b i, ← e, ← w .flow, ← w .length) q }
 
   pub flow-end : (f : Flow) (i : ℕ) → Flowed m at f₀ positions f i → channelCount m ≤ i → f ≡ flowThrough m at f₀ (channelCount m)
   flow-end f i w l = w .flow ∙ ap (flowThrough m at f₀) (omega (arith, w .low))
@@ -94,26 +98,31 @@ row-done l xs positions s r f g z p q h k = rw (eq-eqb (s .time .tick) 0 z, ← 
 
 -- ---- the channels' work, channel by channel
 -- of a song with legal depths
-pub record Voicing (m : Module) (s : Song) (k : List ℕ) (chs : List Channel) (cmds : List Command) (i : ℕ) : Type 0 where
+pub record Voicing (m : Module) (s : Song) (k : List ℕ) (all : AllVoiced) (i : ℕ) : Type 0 where
   pub low : i ≤ channelCount m
   pub depths : (j : ℕ) → j < channelCount m → LegalDepths (getD (s .channels) j freshChannel)
-  pub worked : Parting (λ j. voicedOn m s k j .channel) (λ j. freshChannel) freshChannel width chs i
-  pub told : Parting (λ j. voicedOn m s k j .command) (λ j. nothing) nothing width cmds i
+  pub worked : Parting (λ j. voicedOn m s k j .channel) (λ j. freshChannel) freshChannel width (all .channels) i
+  pub told : Parting (λ j. voicedOn m s k j .command) (λ j. nothing) nothing width (all .commands) i
 
-module _ (m : Module) (s : Song) (k : List ℕ) (chs : List Channel) (cmds : List Command) where
-  pub voicing-begin : (x : Channel) (positions : ℕ) → LegalSong positions (m .layout) s → x ≡ freshChannel → chs ≡ replicate width x → cmds ≡ replicate width nothing → Voicing m s k chs cmds 0
+module _ (m : Module) (s : Song) (k : List ℕ) (all : AllVoiced) where
+  pub voicing-begin : (x : Channel) (positions : ℕ) → LegalSong positions (m .layout) s → x ≡ freshChannel → all .channels ≡ replicate width x → all .commands ≡ replicate width nothing → Voicing m s k all 0
   voicing-begin x positions l z e q = record { low = zero≤; depths = λ j h. record { vibrato = l .channels j h .vibrato .y; tremolo = l .channels j h .tremolo .y }; worked = pad-begin _ _ _ _ (e ∙ ap (replicate width) z) (ap length e); told = pad-begin _ _ _ _ q (ap length q) }
 
-  pub voicing-again : (i : ℕ) (v : Voiced) → LegalLayout (m .layout) → Voicing m s k chs cmds i → i < channelCount m → v ≡ voicedOn m s k i → Voicing m s k (set chs i (v .channel)) (set cmds i (v .command)) (i + 1)
-  voicing-again i v y w l e =
+  pub voicing-depths : (i : ℕ) → Voicing m s k all i → i < channelCount m → LegalDepths (getD (s .channels) i freshChannel)
+  voicing-depths i w l = w .depths i l
+
+  pub voicing-again : (i row : ℕ) (v : Voiced) → LegalLayout (m .layout) → BeginsAt m (s .course .at) row → Voicing m s k all i → i < channelCount m → v ≡ voiced (m .bytes) (cellFrom (m .bytes) (row + 4 * i)) (s .time .tick) (s .time .tick % s .time .speed) (getD (s .channels) i freshChannel) (getD k i 0) → Voicing m s k (record { channels = set (all .channels) i (v .channel); commands = set (all .commands) i (v .command) }) (i + 1)
+  unfolding voicedOn
+  voicing-again i row v y b w l e =
+      let e′ : v ≡ voicedOn m s k i = rw (← cell-there m (s .course .at) row b i) e in
       record {
         low = omega arith;
         depths = w .depths;
-        worked = part-again _ _ _ _ _ i (channelCount m) _ (w .worked) l (y .channels) (ap (λ (x : Voiced). x .channel) e);
-        told = part-again _ _ _ _ _ i (channelCount m) _ (w .told) l (y .channels) (ap (λ (x : Voiced). x .command) e);
+        worked = part-again _ _ _ _ _ i (channelCount m) _ (w .worked) l (y .channels) (ap (λ (x : Voiced). x .channel) e′);
+        told = part-again _ _ _ _ _ i (channelCount m) _ (w .told) l (y .channels) (ap (λ (x : Voiced). x .command) e′);
       }
 
-  pub voicing-end : (i : ℕ) → Voicing m s k chs cmds i → channelCount m ≤ i → record { channels = chs; commands = cmds } ≡ allVoiced m s k
+  pub voicing-end : (i : ℕ) → Voicing m s k all i → channelCount m ≤ i → all ≡ allVoiced m s k
   unfolding allVoiced
   voicing-end i w l = rw (part-end _ _ _ _ _ i (channelCount m) (w .worked) l (w .low), part-end _ _ _ _ _ i (channelCount m) (w .told) l (w .low))
 

@@ -1,7 +1,7 @@
 // The sequencer: the song, what a tick does to it, and what the tick tells the voices. It never sees a voice: the sounding sample
 // numbers are handed to it beside the song.
 ghost use mathlib.Core.Path.{_≡_};
-ghost use Prim.Native.Nat.{_<_};
+ghost use Prim.Native.Nat.{_+_, _*_, _^_, _<_};
 ghost use Rattle.common.specs.Limits.{width};
 ghost use Rattle.ticks.specs.Commands.{soundingOf};
 ghost use Rattle.reader.specs.Layouts.{LegalLayout};
@@ -9,7 +9,8 @@ ghost use Rattle.sequencer.specs.LegalFacts.{LegalTime, LegalSong};
 ghost use Rattle.reader.specs.Judge.{verdict};
 ghost use Rattle.effects.specs.Commands.{voiced};
 ghost use Rattle.effects.specs.LegalFacts.{LegalDepths};
-ghost use Rattle.sequencer.specs.Row.{cellOn};
+ghost use Rattle.reader.specs.Cells.{cellFrom};
+ghost use Rattle.sequencer.specs.RowFacts.{BeginsAt};
 ghost use Rattle.reader.specs.File.{lent, songLength};
 ghost use Rattle.sequencer.specs.Songs.{courseFrom, freshSong, allVoiced, tickWith, tickOf};
 use common::limits::WIDTH;
@@ -132,25 +133,23 @@ pub fn fresh() -> Song
     }
 }
 
-// Channel i at tick u of a row, with t = u mod speed, from what it is before and the sample that its voice has.
+// Channel i at tick u of the row that begins at a place, with t = u mod speed, from what it is before and the sample that its voice has.
 fn voiced_on(
-    layout: Layout,
     file: &[u8],
-    at: Place,
+    row: usize,
     u: u32,
     t: u32,
     channel: Channel,
     sounding: u32,
     i: usize,
 ) -> Voiced
-    requires layout { ⌜ LegalLayout layout ⌝ }
-    requires channel { ⌜ i < width ⌝ }
+    requires place { ⌜ (row < 2 ^ 62) × (i < width) ⌝ }
     requires depths { ⌜ LegalDepths channel ⌝ }
-    ensures { λ r. ⌜ r ≡ voiced (now (file .entry)) (cellOn (lent layout (now (file .entry))) at i) u t channel sounding ⌝ }
+    ensures { λ r. ⌜ r ≡ voiced (now (file .entry)) (cellFrom (now (file .entry)) (row + 4 * i)) u t channel sounding ⌝ }
 {
     effects::commands::voiced(
         file,
-        row::cell_on(layout, file, at, i),
+        reader::song::cell_in(file, row, i),
         u,
         t,
         channel,
@@ -158,15 +157,22 @@ fn voiced_on(
     )
 }
 
-fn all_voiced(layout: Layout, file: &[u8], song: Song, sounding: [u32; WIDTH]) -> AllVoiced
+fn all_voiced(
+    layout: Layout,
+    file: &[u8],
+    row: usize,
+    song: Song,
+    sounding: [u32; WIDTH],
+) -> AllVoiced
     requires layout { ⌜ LegalLayout layout ⌝ }
+    requires row { ⌜ BeginsAt (lent layout (now file)) (song .course .at) row ⌝ }
     requires legal { ⌜ LegalSong (songLength (lent layout (now file))) layout song ⌝ }
     ensures { λ r. ⌜ r ≡ allVoiced (lent layout (now (file .entry))) song sounding ⌝ }
 {
     let u = song.time.tick;
     let t = u % song.time.speed;
     let channel = effects::fresh_channel();
-    let mut channels = [channel; WIDTH];
+    let channels = [channel; WIDTH];
     let nothing = Command {
         sample: 0,
         volume: 0,
@@ -174,29 +180,18 @@ fn all_voiced(layout: Layout, file: &[u8], song: Song, sounding: [u32; WIDTH]) -
         start: false,
         offset: 0,
     };
-    let mut commands = [nothing; WIDTH];
+    let commands = [nothing; WIDTH];
+    let mut all = AllVoiced { channels, commands };
     let mut i = 0;
     while i < layout.channels {
-        let voiced = voiced_on(
-            layout,
-            file,
-            song.course.at,
-            u,
-            t,
-            song.channels[i],
-            sounding[i],
-            i,
-        );
+        let voiced = voiced_on(file, row, u, t, song.channels[i], sounding[i], i);
         let channel = voiced.channel;
-        channels[i] = channel;
+        all.channels[i] = channel;
         let command = voiced.command;
-        commands[i] = command;
+        all.commands[i] = command;
         i += 1;
     }
-    AllVoiced {
-        channels: channels,
-        commands: commands,
-    }
+    all
 }
 
 fn tick_with(song: Song, voiced: AllVoiced) -> Worked
@@ -222,8 +217,10 @@ pub fn tick(layout: Layout, file: &[u8], song: Song, sounding: [u32; WIDTH]) -> 
     ensures { λ r. ⌜ r ≡ tickOf (lent layout (now (file .entry))) song sounding ⌝ }
 {
     let positions = reader::song::song_length(layout, file);
-    let voiced = all_voiced(layout, file, song, sounding);
-    tick_with(row::song_work(layout, file, positions, song), voiced)
+    let at = song.course.at;
+    let row = reader::song::row_at(layout, file, at.position, at.row);
+    let voiced = all_voiced(layout, file, row, song, sounding);
+    tick_with(row::song_work(layout, file, positions, row, song), voiced)
 }
 
 // The samples that the voices have after these commands.

@@ -11,6 +11,8 @@ unfolding rowForm
 row-form-spec =
     tie.close
     (tie.spec
+    (λ c. search needs)
+    (λ c. search needs)
     (λ c. search (limits, tests, needs))
     (λ c. search (limits, tests, needs))
     (λ c. search (limits, tests, needs)))

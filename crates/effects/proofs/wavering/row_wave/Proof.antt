@@ -13,4 +13,4 @@ row-wave-spec =
     (λ c κs. search needs)
     (λ c κs. search needs)
     (λ c κs. search needs)
-    (λ c. rw (c .row-form .ensures, c .before .row-place .ensures, c .before .before .remembered2 .ensures, c .before .before .before .before .remembered .ensures)))
+    (λ c. rw (c .row-form .ensures, c .before .row-place .ensures, c .before .before .row-digit2 .ensures, c .before .before .before .before .row-digit .ensures)))

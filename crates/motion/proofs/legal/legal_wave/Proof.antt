@@ -7,4 +7,11 @@ use Rattle.motion.proofs.legal.legal_wave.Tie as tie
 
 pub legal-wave-spec : {M : Type 1} → statement M
 unfolding legalWave all allFrom
-legal-wave-spec = tie.close (tie.spec (λ c. search needs))
+legal-wave-spec =
+    tie.close
+    (tie.spec
+    (λ c. search needs)
+    (λ c. search needs)
+    (λ c. search needs)
+    (λ c. search needs)
+    (λ c. search needs))

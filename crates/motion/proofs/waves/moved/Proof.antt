@@ -1,6 +1,5 @@
 -- The tests are those of the definition, in its order.
 use Rattle.laws.specs.Tests.{tests}
-use Rattle.motion.proofs.Waving.{around}
 use Rattle.motion.specs.Waves.{moved}
 use borrow.Author.Needs.{needs}
 use Rattle.motion.proofs.waves.moved.Statement.{statement}
@@ -12,5 +11,8 @@ moved-spec =
     tie.close
     (tie.spec
     (λ c. search needs)
-    (λ c. search (tests, around, needs))
+    (λ c. search needs)
+    (λ c. search needs)
+    (λ c. search needs)
+    (λ c. search (tests, needs))
     (λ c. search (tests, needs)))

@@ -10,7 +10,10 @@ unfolding offsetSize
 offset-size-spec =
     tie.close
     (tie.spec
+    (λ c. search needs)
+    (λ c. search needs)
     (λ c κs. search needs)
+    (λ c. search needs)
     (λ c. search (product-fits, needs))
     (λ c. search needs)
     (λ c. cc))

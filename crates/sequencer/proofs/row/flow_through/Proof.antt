@@ -7,10 +7,10 @@ use Rattle.sequencer.proofs.row.flow_through.Statement.{statement}
 use Rattle.sequencer.proofs.row.flow_through.Tie as tie
 
 abbrev Inv-loop : tie.InvT-loop
-Inv-loop layout file positions at flow₀ i₀ flow i = Flowed (lent layout file) at flow₀ positions flow i
+Inv-loop layout file positions at row flow₀ i₀ flow i = Flowed (lent layout file) at flow₀ positions flow i
 
 abbrev μ-loop : tie.MeasureT-loop
-μ-loop layout file positions at flow₀ i₀ flow i = layout .channels - i
+μ-loop layout file positions at row flow₀ i₀ flow i = layout .channels - i
 
 pub flow-through-spec : {M : Type 1} → statement M
 flow-through-spec =

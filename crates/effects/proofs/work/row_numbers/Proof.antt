@@ -1,0 +1,19 @@
+-- Each field is what its calls give.
+use Rattle.effects.specs.Work.{rowChannel}
+use borrow.Author.Needs.{needs}
+use Rattle.effects.proofs.work.row_numbers.Statement.{statement}
+use Rattle.effects.proofs.work.row_numbers.Tie as tie
+
+pub row-numbers-spec : {M : Type 1} → statement M
+unfolding rowChannel
+row-numbers-spec =
+    tie.close
+    (tie.spec
+    (λ c κs. search needs)
+    (λ c κs. search needs)
+    (λ c κs. search needs)
+    (λ c κs. search needs)
+    (λ c κs. search needs)
+    (λ c κs. search needs)
+    (λ c κs. search needs)
+    (λ c. rw (c .row-memory .ensures, c .before .row-target .ensures, c .before .before .row-period .ensures, c .before .before .before .given-period .ensures, c .before .before .before .before .row-volume .ensures, c .before .before .before .before .before .given-volume .ensures, c .before .before .before .before .before .before .latched-by .ensures)))
