@@ -76,18 +76,26 @@ pub fn held() -> Vec<u8> {
     accepted(draft.bytes())
 }
 
-/// Four looped samples and one pattern: a note on each channel in every fourth row, arpeggios and slides between.
+/// A note on each channel in every fourth row, arpeggios and slides between.
 pub fn busy() -> Vec<u8> {
+    repeating([0x047, 0x102, 0x202, 0x037])
+}
+
+/// The same without arpeggios.
+pub fn sliding() -> Vec<u8> {
+    repeating([0x000, 0x102, 0x202, 0x000])
+}
+
+/// Four looped samples and one pattern, whose rows have these effects in turn, the first of them with a note on each channel.
+fn repeating(effects: [u32; 4]) -> Vec<u8> {
     let mut draft = four_samples();
     for row in 0..64 {
         for channel in 0..4 {
-            let (sample, period, effect) = match row % 4 {
-                0 => (channel as u32 + 1, [428, 285, 214, 160][channel], 0x047),
-                1 => (0, 0, 0x102),
-                2 => (0, 0, 0x202),
-                _ => (0, 0, 0x037),
+            let (sample, period) = match row % 4 {
+                0 => (channel as u32 + 1, [428, 285, 214, 160][channel]),
+                _ => (0, 0),
             };
-            draft.put(0, row, channel, sample, period, effect);
+            draft.put(0, row, channel, sample, period, effects[row % 4]);
         }
     }
     accepted(draft.bytes())

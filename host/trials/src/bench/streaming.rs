@@ -1,5 +1,5 @@
 //! Translation, ns a tick; and the board against the player on the same module, ns a frame.
-use super::modules::busy;
+use super::modules::{busy, sliding};
 use crate::say::say;
 use crate::timing::print_medians;
 use lampthistle::MOST_TICKS;
@@ -12,29 +12,35 @@ pub fn print() {
     let file = busy();
     say("translation of 655 to 65,535 ticks");
     for ticks in [MOST_TICKS / 100, MOST_TICKS / 10, MOST_TICKS] {
-        let mut room = vec![0; MOST_BYTES];
-        let mut other = room.clone();
-        print_medians(
-            "tick",
-            f64::from(ticks),
-            &mut [
-                (&format!("proved, {ticks} ticks"), &mut || {
-                    let _ = black_box(lampthistle::translate(black_box(&file), ticks, &mut room));
-                }),
-                (
-                    &format!("second implementation, {ticks} ticks"),
-                    &mut || {
-                        black_box(second::translate(black_box(&file), ticks, &mut other));
-                    },
-                ),
-            ],
-        );
-        assert!(room == other, "both write the same stream");
+        translation(&file, ticks);
     }
+    say("translation of a module without arpeggios");
+    translation(&sliding(), MOST_TICKS / 10);
     say("play_stream against play, 10 to 1,000 ticks");
     for ticks in [10, 100, 1_000] {
         board_and_player(&file, ticks);
     }
+}
+
+fn translation(file: &[u8], ticks: u32) {
+    let mut room = vec![0; MOST_BYTES];
+    let mut other = room.clone();
+    print_medians(
+        "tick",
+        f64::from(ticks),
+        &mut [
+            (&format!("proved, {ticks} ticks"), &mut || {
+                let _ = black_box(lampthistle::translate(black_box(file), ticks, &mut room));
+            }),
+            (
+                &format!("second implementation, {ticks} ticks"),
+                &mut || {
+                    black_box(second::translate(black_box(file), ticks, &mut other));
+                },
+            ),
+        ],
+    );
+    assert!(room == other, "both write the same stream");
 }
 
 fn board_and_player(file: &[u8], ticks: u32) {
