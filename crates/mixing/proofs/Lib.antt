@@ -2,5 +2,8 @@ pub mod Sums
 pub mod Sides
 pub mod Seeking
 pub mod Continuing
+pub mod Pacing
+pub mod Voices
+pub mod Piecing
 pub mod Telling
 pub mod Mixing

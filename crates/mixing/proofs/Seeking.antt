@@ -1,6 +1,6 @@
 -- The search for the next channel that sounds on a side, and what the channel has that was found.
 -- Assumes nothing.
-use mathlib.Core.Path.{_≡_, refl, sym, ap, _∙_}
+use mathlib.Core.Path.{_≡_, refl, sym, _∙_}
 use mathlib.Core.Bool.{Bool, true, false}
 use mathlib.Core.List.{List}
 use Prim.Native.Nat.{ℕ, _+_, _-_, _≤_, _<_}
@@ -8,18 +8,12 @@ use native.Mathlib.Omega.{arith}
 use borrow.Author.Tests.{ltb-true, ltb-false, ne-eqb}
 use lib.Dec.{ltb}
 use lib.ListN.{length, take, drop, length-take, length-drop}
-use lib.IntN.{ℤ, pos, _+ℤ_, _*ℤ_, +ℤ-idr, zero-*ℤ}
 use Rattle.common.specs.Limits.{width}
-use Rattle.runs.specs.Cells.{numbersFrom, laidFrom, stored}
-use Rattle.runs.specs.CellLaws.{numbers-same}
 use Rattle.reader.specs.declared.Extent.{Extent}
-use Rattle.reader.specs.Samples.{Sample}
 use Rattle.voice.specs.declared.Voice.{Voice}
-use Rattle.voice.specs.Voice.{freshVoice, silentOf}
 use Rattle.voice.specs.Frames.{sideOf}
-use Rattle.voice.specs.LegalFacts.{LegalSound, LoopInside}
-use Rattle.voice.specs.Kept.{silent-gives, fresh-legal, loud-index}
-use Rattle.voice_runs.specs.Runs.{oneAt, bothAt}
+use Rattle.voice.specs.LegalFacts.{LoopInside}
+use Rattle.voice.specs.Kept.{loud-index}
 use Rattle.mixing.specs.Sides.{cutOf, Voiced, extentAt, voiceIn, Sounding, soundsOf, Next}
 use Rattle.mixing.proofs.Sides.{sounds-loud}
 
@@ -65,24 +59,8 @@ module _ (file : List ℕ) (x : Extent) (v : Voice) (m : Voiced file x v) where
 
 -- a channel that was found
 module _ (file : List ℕ) (xs : List Extent) (vs : List Voice) (c side i r : ℕ) (s : Sounding file xs vs c) (m : Next vs side c i r) (h : r < c) where
-  pub next-room : r < width
-  next-room = omega (arith, s .few)
-
   pub voiced-next : Voiced file (extentAt xs r) (voiceIn vs r)
   voiced-next = s .at r h
 
   pub end-next : 0 < extentAt xs r .end
   end-next = omega (arith, loud-index (extentAt xs r .end) (voiceIn vs r) (voiced-next .legal) (sounds-loud side r (voiceIn vs r) (m .there h)))
-
-pub fresh-sound : (end : ℕ) (v : Voice) → v ≡ freshVoice → LegalSound end v
-fresh-sound end v e = rw e (fresh-legal 0 end .sound)
-
-stop : (s : Sample) (times : ℕ) (u : Voice) → u ≡ freshVoice → (k : ℕ) → oneAt times s u k ≡ pos 0
-unfolding oneAt silentOf
-stop s times u e k = ap (λ (z : ℤ). z *ℤ pos times) (silent-gives s u (rw e) k) ∙ zero-*ℤ (pos times)
-
--- a voice beside one that is stopped
-pub alone : (times : ℕ) (s t : Sample) (v u : Voice) (n side : ℕ) (out new : List ℤ) → u ≡ freshVoice → new ≡ laidFrom stored side (numbersFrom (bothAt times s v t u) 0 n) out → new ≡ laidFrom stored side (numbersFrom (oneAt times s v) 0 n) out
-unfolding bothAt
-alone times s t v u n side out new e z =
-    z ∙ ap (λ ys. laidFrom stored side ys out) (numbers-same _ _ n 0 0 (λ j _. ap (λ y. oneAt times s v (j + 0) +ℤ y) (stop t times u e (j + 0)) ∙ +ℤ-idr _))

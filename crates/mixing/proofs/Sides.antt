@@ -1,33 +1,31 @@
--- A side of a tick: a channel that sounds on it adds to its numbers and moves, and any other changes nothing.
+-- A side of some frames: a channel that sounds on it adds to its numbers and moves, and any other changes nothing.
 -- Assumes nothing.
 use mathlib.Core.Path.{_≡_, refl, sym, ap, ap₂, subst, _∙_}
 use mathlib.Core.Bool.{Bool, true, false, cond}
 use mathlib.Core.List.{List}
 use Prim.Native.Nat.{ℕ, zero, suc, _+_, _-_, _*_, _≤_, _<_}
-use native.Mathlib.Nat.{zero-add, suc-add}
+use native.Mathlib.Nat.{zero-add, suc-add, le-refl}
 use native.Mathlib.Numerals.{add-one}
 use native.Mathlib.Omega.{arith}
 use borrow.Author.Tests.{eqb-true, eq-eqb}
 use lib.Dec.{T, eqb}
-use lib.ListN.{length, getD, set}
+use lib.ListN.{length, set}
 use lib.IntN.{ℤ, pos, _+ℤ_, _*ℤ_, +ℤ-idl, +ℤ-idr, zero-*ℤ}
 use lib.Signed.{mag}
-use Rattle.laws.specs.Signed.{times-sum}
+use Rattle.laws.specs.Signed.{mag-mul, times-sum}
 use Rattle.laws.specs.Lists.{part-each}
 use Rattle.laws.specs.Each.{Parting, within-begin, part-again, part-skip, part-end}
 use Rattle.common.specs.ByteLaws.{Bytes}
 use Rattle.common.specs.Limits.{width}
-use Rattle.runs.specs.Cells.{stride, numbersFrom, laidFrom, stored}
-use Rattle.runs.specs.CellLaws.{numbers-same, stored-at, stored-added}
+use Rattle.runs.specs.Cells.{Holds, Narrow, sumAt, Roomy}
 use Rattle.reader.specs.declared.Extent.{Extent}
 use Rattle.voice.specs.declared.Voice.{Voice}
 use Rattle.voice.specs.Voice.{silentOf}
-use Rattle.voice.specs.Range.{greatestGiven, gives-range, LegalSides, room-before}
+use Rattle.voice.specs.Range.{greatestGiven, half16, gives-range, LegalSides, side-fits, room-before}
 use Rattle.voice.specs.Frames.{stepsOf, givesAt, sideOf, sumOf, blank}
 use Rattle.voice.specs.Kept.{silent-steps, silent-gives, steps-volume}
-use Rattle.voice_runs.specs.Adding.{Room}
-use Rattle.voice_runs.specs.Runs.{oneAt, bothAt}
-use Rattle.mixing.specs.Sides.{cutOf, extentAt, voiceIn, Sounding, givenBy, sideAt, sidedAt, sidedOf, soundsOf, Next, Siding}
+use Rattle.voice_runs.specs.Runs.{oneAt}
+use Rattle.mixing.specs.Sides.{cutOf, extentAt, voiceIn, Sounding, givenBy, sideAt, laterAt, sidedAt, sidedOf, soundsOf, Next, Siding}
 
 -- ---- whether a channel sounds
 module _ (side j : ℕ) (v : Voice) (e : soundsOf side j v ≡ true) where
@@ -103,76 +101,49 @@ module _ (file : List ℕ) (xs : List Extent) (vs : List Voice) (side : ℕ) whe
   side-zero times k = zero-*ℤ (pos times)
 
   -- ---- a side, channel by channel
-  module _ (times c n : ℕ) (out₀ : List ℤ) where
+  module _ (times c n : ℕ) where
     -- no channel sounds
-    pub siding-none : (a : ℕ) (new : List ℤ) → length vs ≡ width → Next vs side c 0 a → c ≤ a → new ≡ laidFrom stored side (numbersFrom (λ j. pos 0) 0 n) out₀ → Siding file xs vs times side c n out₀ vs new c
-    siding-none a new l m h z =
+    pub siding-none : (a : ℕ) (cells : List ℤ) → length vs ≡ width → Next vs side c 0 a → c ≤ a → Holds (λ j. pos 0) n cells → Siding file xs vs times side c n vs cells c
+    siding-none a cells l m h z =
         let q : a ≡ c = omega (arith, m .most) in
-        subst (Siding file xs vs times side c n out₀ vs new) q
+        subst (Siding file xs vs times side c n vs cells) q
         (record {
           few = m .most;
           there = m .there;
           voices = voices-skip c 0 a m n vs (within-begin _ blank width vs l);
-          cells = z ∙ ap (λ ys. laidFrom stored side ys out₀) (numbers-same _ _ n 0 0 (λ j _. sym (side-skip c 0 a m times (j + 0) ∙ side-zero times (j + 0))));
+          sums = λ j k. z j k ∙ sym (side-skip c 0 a m times j ∙ side-zero times j);
         })
 
-    -- one
-    module _ (a b : ℕ) (l : length vs ≡ width) (room : c ≤ width) (m : Next vs side c 0 a) (h : a < c) (p : Next vs side c (a + 1) b) where
-      first-voices : Parting (sidedAt file xs vs n side) (voiceIn vs) blank width (set vs a (stepsOf (cutOf file (extentAt xs a)) n (voiceIn vs a))) b
-      first-voices =
-          voices-skip c (a + 1) b p n _
-          (part-again _ blank width vs (voiceIn vs) a c _ (voices-skip c 0 a m n vs (within-begin _ blank width vs l)) h room (sided-is a (m .there h) n))
+    -- the first that does
+    pub siding-first : (a b : ℕ) (v : Voice) (cells : List ℤ) → length vs ≡ width → c ≤ width → Next vs side c 0 a → a < c → Next vs side c (a + 1) b → v ≡ laterAt file xs vs n a → Holds (oneAt times (cutOf file (extentAt xs a)) (voiceIn vs a)) n cells → Siding file xs vs times side c n (set vs a v) cells b
+    siding-first a b v cells l room m h p e z =
+        record {
+          few = p .most;
+          there = p .there;
+          voices =
+              voices-skip c (a + 1) b p n _
+              (part-again _ blank width vs (voiceIn vs) a c v (voices-skip c 0 a m n vs (within-begin _ blank width vs l)) h room (e ∙ sided-is a (m .there h) n));
+          sums = λ j k. z j k ∙ sym (first-side j);
+        }
+      where
+        first-side : (k : ℕ) → sideAt file xs vs times side b k ≡ oneAt times (cutOf file (extentAt xs a)) (voiceIn vs a) k
+        first-side k =
+            side-skip c (a + 1) b p times k
+            ∙ ap (λ i. sideAt file xs vs times side i k) (add-one a)
+            ∙ side-more a (m .there h) times k
+            ∙ ap (λ z. z +ℤ oneAt times (cutOf file (extentAt xs a)) (voiceIn vs a) k) (side-skip c 0 a m times k ∙ side-zero times k)
+            ∙ +ℤ-idl _
 
-      first-side : (k : ℕ) → sideAt file xs vs times side b k ≡ oneAt times (cutOf file (extentAt xs a)) (voiceIn vs a) k
-      first-side k =
-          side-skip c (a + 1) b p times k
-          ∙ ap (λ i. sideAt file xs vs times side i k) (add-one a)
-          ∙ side-more a (m .there h) times k
-          ∙ ap (λ z. z +ℤ oneAt times (cutOf file (extentAt xs a)) (voiceIn vs a) k) (side-skip c 0 a m times k ∙ side-zero times k)
-          ∙ +ℤ-idl _
-
-      pub siding-one : (w : List Voice) (new : List ℤ) → c ≤ b → w ≡ set vs a (stepsOf (cutOf file (extentAt xs a)) n (voiceIn vs a)) → new ≡ laidFrom stored side (numbersFrom (oneAt times (cutOf file (extentAt xs a)) (voiceIn vs a)) 0 n) out₀ → Siding file xs vs times side c n out₀ w new c
-      siding-one w new k e z =
-          let q : b ≡ c = omega (arith, p .most) in
-          subst (Siding file xs vs times side c n out₀ w new) q
-          (record {
-            few = p .most;
-            there = p .there;
-            voices = rw e first-voices;
-            cells = z ∙ ap (λ ys. laidFrom stored side ys out₀) (numbers-same _ _ n 0 0 (λ j _. sym (first-side (j + 0))));
-          })
-
-      -- two, and the next
-      pub siding-two : (d : ℕ) (w : List Voice) (new : List ℤ) → b < c → Next vs side c (b + 1) d → w ≡ set (set vs a (stepsOf (cutOf file (extentAt xs a)) n (voiceIn vs a))) b (stepsOf (cutOf file (extentAt xs b)) n (voiceIn vs b)) → new ≡ laidFrom stored side (numbersFrom (bothAt times (cutOf file (extentAt xs a)) (voiceIn vs a) (cutOf file (extentAt xs b)) (voiceIn vs b)) 0 n) out₀ → Siding file xs vs times side c n out₀ w new d
-      unfolding bothAt
-      siding-two d w new k r e z =
-          record {
-            few = r .most;
-            there = r .there;
-            voices = rw e (voices-skip c (b + 1) d r n _ (part-again _ blank width _ (voiceIn vs) b c _ first-voices k room (sided-is b (p .there k) n)));
-            cells = z ∙ ap (λ ys. laidFrom stored side ys out₀) (numbers-same _ _ n 0 0 (λ j _. sym (second-side (j + 0))));
-          }
-        where
-          second-side : (i : ℕ) → sideAt file xs vs times side d i ≡ oneAt times (cutOf file (extentAt xs a)) (voiceIn vs a) i +ℤ oneAt times (cutOf file (extentAt xs b)) (voiceIn vs b) i
-          second-side i =
-              side-skip c (b + 1) d r times i
-              ∙ ap (λ y. sideAt file xs vs times side y i) (add-one b)
-              ∙ side-more b (p .there k) times i
-              ∙ ap (λ y. y +ℤ oneAt times (cutOf file (extentAt xs b)) (voiceIn vs b) i) (first-side i)
-
-    -- one more
-    module _ (w : List Voice) (out : List ℤ) (i : ℕ) (m : Siding file xs vs times side c n out₀ w out i) where
-      pub siding-more : c ≤ width → side < 2 → stride * n ≤ length out₀ → i < c → (r : ℕ) (v : Voice) (new : List ℤ) → Next vs side c (i + 1) r → v ≡ stepsOf (cutOf file (extentAt xs i)) n (voiceIn vs i) → new ≡ laidFrom _+ℤ_ side (numbersFrom (oneAt times (cutOf file (extentAt xs i)) (voiceIn vs i)) 0 n) out → Siding file xs vs times side c n out₀ (set w i v) new r
-      siding-more room f l h r v new p e z =
+    module _ (w : List Voice) (cells : List ℤ) (i : ℕ) (m : Siding file xs vs times side c n w cells i) where
+      -- one more
+      pub siding-more : c ≤ width → i < c → (r : ℕ) (v : Voice) (further new : List ℤ) → Next vs side c (i + 1) r → v ≡ laterAt file xs vs n i → Holds (oneAt times (cutOf file (extentAt xs i)) (voiceIn vs i)) n further → Holds (sumAt cells further) n new → Siding file xs vs times side c n (set w i v) new r
+      unfolding sumAt
+      siding-more room h r v further new p e z y =
           record {
             few = p .most;
             there = p .there;
             voices = voices-skip c (i + 1) r p n _ (part-again _ blank width w (voiceIn vs) i c v (m .voices) h room (e ∙ sided-is i (m .there h) n));
-            cells =
-                z
-                ∙ ap (laidFrom _+ℤ_ side (numbersFrom (oneAt times (cutOf file (extentAt xs i)) (voiceIn vs i)) 0 n)) (m .cells)
-                ∙ stored-added _ _ n 0 side out₀ (omega arith)
-                ∙ ap (λ ys. laidFrom stored side ys out₀) (numbers-same _ _ n 0 0 (λ j _. sym (more-side (j + 0))));
+            sums = λ j k. y j k ∙ ap₂ _+ℤ_ (m .sums j k) (z j k) ∙ sym (more-side j);
           }
         where
           more-side : (k : ℕ) → sideAt file xs vs times side r k ≡ sideAt file xs vs times side i k +ℤ oneAt times (cutOf file (extentAt xs i)) (voiceIn vs i) k
@@ -183,19 +154,33 @@ module _ (file : List ℕ) (xs : List Extent) (vs : List Voice) (side : ℕ) whe
         unfolding sidedOf
         siding-voices = part-end _ blank width w (voiceIn vs) i c (m .voices) h (m .few)
 
-        pub siding-cells : out ≡ laidFrom stored side (numbersFrom (sideAt file xs vs times side c) 0 n) out₀
-        siding-cells = let q : i ≡ c = omega (arith, m .few) in m .cells ∙ ap (λ y. laidFrom stored side (numbersFrom (sideAt file xs vs times side y) 0 n) out₀) q
+        pub siding-sums : Holds (sideAt file xs vs times side c) n cells
+        siding-sums j k = let q : i ≡ c = omega (arith, m .few) in m .sums j k ∙ ap (λ y. sideAt file xs vs times side y j) q
 
-      -- its cells have room for channel i
-      pub siding-room : Sounding file xs vs c → LegalSides c times → Bytes file → side < 2 → stride * n ≤ length out₀ → i < c → (k : ℕ) → k < n → Room times (getD out (side + stride * k) (pos 0))
-      unfolding sideAt givenBy
-      siding-room s legal b f l h k q =
-          let on : sideOf i ≡ side = sounds-on side i (voiceIn vs i) (m .there h) in
-          subst (Room times) (sym (ap (λ cells. getD cells (side + stride * k) (pos 0)) (m .cells) ∙ stored-at _ n 0 k side out₀ (omega arith) q))
-          (subst (λ y. Room times (sumOf (givenBy file xs vs (k + 0)) y i *ℤ pos times)) on (room-before (givenBy file xs vs (k + 0)) c times legal i h (λ j z. range j (omega arith))))
-        where
-          range : (j : ℕ) → j < c → mag (givenBy file xs vs (k + 0) j) < greatestGiven
-          range j z =
-              let x = extentAt xs j in
-              gives-range _ (part-each (λ (y : ℕ). y < 256) 0 (omega arith) (x .from) (x .to - x .from) file b) (stepsOf (cutOf file x) (k + 0) (voiceIn vs j))
-              (rw (steps-volume (cutOf file x) (voiceIn vs j) (k + 0)) (s .at j z .legal .volume))
+      -- ---- ranges
+      module _ (s : Sounding file xs vs c) (legal : LegalSides c times) (b : Bytes file) where
+        given-range : (k j : ℕ) → j < c → mag (givenBy file xs vs k j) < greatestGiven
+        unfolding givenBy
+        given-range k j z =
+            let x = extentAt xs j in
+            gives-range _ (part-each (λ (y : ℕ). y < 256) 0 (omega arith) (x .from) (x .to - x .from) file b) (laterAt file xs vs k j)
+            (rw (steps-volume (cutOf file x) (voiceIn vs j) k) (s .at j z .legal .volume))
+
+        -- the cells have room for channel i
+        pub siding-roomy : i < c → (further : List ℤ) → Holds (oneAt times (cutOf file (extentAt xs i)) (voiceIn vs i)) n further → Roomy further cells n
+        unfolding sideAt oneAt givenBy
+        siding-roomy h further z =
+            let on : sideOf i ≡ side = sounds-on side i (voiceIn vs i) (m .there h) in
+            record {
+              bound = greatestGiven * times;
+              small = λ k l. subst (λ y. mag y < greatestGiven * times) (sym (z k l)) (mag-mul (givenBy file xs vs k i) times (given-range k i h) (le-refl times) (legal .scale .0));
+              room =
+                  λ k l.
+                  subst (λ y. mag y + greatestGiven * times < half16) (sym (m .sums k l))
+                  (subst (λ y. mag (sumOf (givenBy file xs vs k) y i *ℤ pos times) + greatestGiven * times < half16) on (room-before (givenBy file xs vs k) c times legal i h (λ j q. given-range k j (omega arith))));
+            }
+
+        -- and nothing is clipped
+        pub siding-narrow : side < 2 → c ≤ i → Narrow cells n
+        unfolding sideAt
+        siding-narrow f h k l = subst (λ y. mag y < half16) (sym (siding-sums h k l)) (side-fits (givenBy file xs vs k) c times legal side f (given-range k))

@@ -1,4 +1,4 @@
--- A side of a tick: the channels that sound on it, what they give, and the voices after it; and the voices told their commands.
+-- Frames by sides: the channels that sound on a side, what they give, and the voices after it; and the voices told their commands.
 -- For any number of channels.
 -- Assumes nothing.
 use mathlib.Core.Path.{_≡_}
@@ -11,7 +11,7 @@ use lib.IntN.{ℤ, pos, _*ℤ_}
 use Rattle.laws.specs.Ranges.{within}
 use Rattle.laws.specs.Each.{Parting}
 use Rattle.common.specs.Limits.{width}
-use Rattle.runs.specs.Cells.{numbersFrom, laidFrom, stored}
+use Rattle.runs.specs.Cells.{Holds}
 use Rattle.ticks.specs.declared.Command.{Command}
 use Rattle.ticks.specs.Commands.{nothing}
 use Rattle.reader.specs.declared.Extent.{Extent}
@@ -21,6 +21,8 @@ use Rattle.voice.specs.Voice.{silentOf, toldOf}
 use Rattle.voice.specs.Modules.{sampleWith}
 use Rattle.voice.specs.Frames.{stepsOf, givesAt, sideOf, sumOf, blank}
 use Rattle.voice.specs.LegalFacts.{LegalSound}
+use Rattle.voice_runs.specs.declared.line.Pace.{Pace}
+use Rattle.voice_runs.specs.Runs.{Paced}
 
 -- ---- voices beside their samples' extents
 -- the sample of an extent in a file
@@ -46,7 +48,16 @@ pub record Sounding (file : List ℕ) (xs : List Extent) (vs : List Voice) (c : 
   pub few : c ≤ width
   pub at : (i : ℕ) → i < c → Voiced file (extentAt xs i) (voiceIn vs i)
 
--- ---- a side of n frames
+-- ---- their paces
+-- what stands for the pace of a channel that is not there
+abbrev pub noPace : Pace
+noPace = record { growth = 0; inverse = 0 }
+
+-- each of c channels has the pace of its voice
+pub record Pacing (vs : List Voice) (ps : List Pace) (c : ℕ) : Type 0 where
+  pub at : (i : ℕ) → i < c → Paced (voiceIn vs i .period) (getD ps i noPace)
+
+-- ---- n frames, by sides
 module _ (file : List ℕ) (xs : List Extent) (vs : List Voice) where
   -- what channel i gives in frame k
   unfoldable pub givenBy : ℕ → ℕ → ℤ
@@ -56,13 +67,21 @@ module _ (file : List ℕ) (xs : List Extent) (vs : List Voice) where
   unfoldable pub sideAt : ℕ → ℕ → ℕ → ℕ → ℤ
   sideAt times side c k = sumOf (givenBy k) side c *ℤ pos times
 
-  -- the voice of channel i after n frames, if it is on the side
+  -- the voice of channel i after n frames
+  abbrev pub laterAt : ℕ → ℕ → Voice
+  laterAt n i = stepsOf (cutOf file (extentAt xs i)) n (voiceIn vs i)
+
+  -- the same if it is on the side
   unfoldable pub sidedAt : ℕ → ℕ → ℕ → Voice
-  sidedAt n side i = cond (eqb (sideOf i) side) (stepsOf (cutOf file (extentAt xs i)) n (voiceIn vs i)) (voiceIn vs i)
+  sidedAt n side i = cond (eqb (sideOf i) side) (laterAt n i) (voiceIn vs i)
 
   -- the voices after n frames of the side
   unfoldable pub sidedOf : ℕ → ℕ → ℕ → List Voice
   sidedOf n side c = within (sidedAt n side) blank c width vs
+
+  -- and of both sides
+  unfoldable pub laterOf : ℕ → ℕ → List Voice
+  laterOf n c = within (laterAt n) blank c width vs
 
 -- ---- the channels that sound
 -- whether channel i, of this voice, sounds on the side
@@ -77,11 +96,11 @@ pub record Next (vs : List Voice) (side c i r : ℕ) : Type 0 where
   pub there : r < c → soundsOf side r (voiceIn vs r) ≡ true
 
 -- the channels before i are mixed on the side, which has c: their voices have moved, and the cells have their sums; channel i sounds, or is c
-pub record Siding (file : List ℕ) (xs : List Extent) (vs : List Voice) (times side c n : ℕ) (out₀ : List ℤ) (w : List Voice) (out : List ℤ) (i : ℕ) : Type 0 where
+pub record Siding (file : List ℕ) (xs : List Extent) (vs : List Voice) (times side c n : ℕ) (w : List Voice) (cells : List ℤ) (i : ℕ) : Type 0 where
   pub few : i ≤ c
   pub there : i < c → soundsOf side i (voiceIn vs i) ≡ true
   pub voices : Parting (sidedAt file xs vs n side) (voiceIn vs) blank width w i
-  pub cells : out ≡ laidFrom stored side (numbersFrom (sideAt file xs vs times side i) 0 n) out₀
+  pub sums : Holds (sideAt file xs vs times side i) n cells
 
 -- ---- the voices told their commands
 -- the extent of channel i's sample

@@ -1,4 +1,4 @@
-// Mixing voices into frames: the voices are told their commands, and each side is mixed by itself.
+// Mixing voices into frames: the voices are told their commands, and their frames are mixed piece by piece, each side by itself.
 ghost use mathlib.Core.Path.{_≡_};
 ghost use mathlib.Core.List.{_++_};
 ghost use Prim.Native.Nat.{ℕ, _*_, _<_, _≤_};
@@ -14,7 +14,7 @@ ghost use Rattle.voice.specs.Modules.{samplesIn};
 ghost use Rattle.voice.specs.Frames.{scaleOf, frameNumbers, blank, mixed, moved};
 ghost use Rattle.voice.specs.LegalFacts.{Ready};
 ghost use Rattle.mixing.specs.Sides.{markAt, toldAt, silentAt};
-use crate::side::mix_side;
+use crate::pieces::mix_pieces;
 use common::limits::SAMPLE_NUMBERS;
 use common::limits::WIDTH;
 use reader::Extent;
@@ -23,6 +23,7 @@ use runs::FRAME_NUMBERS;
 use ticks::Command;
 use voice::Voice;
 
+mod pieces;
 mod side;
 
 // With up to so many channels a side is twice the sum, with more the plain sum.
@@ -118,6 +119,5 @@ pub fn mix(
         return told;
     }
     let times = scale(channels);
-    let left = mix_side(channels, file, marks, told, times, frames, out, 0);
-    mix_side(channels, file, marks, left, times, frames, out, 1)
+    mix_pieces(channels, file, marks, told, times, frames, out)
 }

@@ -1,18 +1,17 @@
-// A side of a tick: the first two channels that sound on it are stored, further ones added to them.
+// A side of a piece: the first channel that sounds on it is spread into the side's cells, and each further one added to them.
 ghost use mathlib.Core.Path.{_≡_};
-ghost use Prim.Native.Nat.{_*_, _<_, _≤_};
-ghost use lib.ListN.{length, set};
+ghost use Prim.Native.Nat.{_+_, _<_, _≤_};
+ghost use lib.ListN.{length};
 ghost use Rattle.common.specs.Limits.{width};
-ghost use Rattle.runs.specs.Cells.{numbersFrom, laidFrom, stored};
-ghost use Rattle.voice.specs.Frames.{stepsOf, sideOf, frameNumbers};
+ghost use Rattle.runs.specs.Cells.{Holds, Narrow};
+ghost use Rattle.voice.specs.Frames.{stepsOf, sideOf};
 ghost use Rattle.voice.specs.Range.{LegalSides};
-ghost use Rattle.voice_runs.specs.Runs.{oneAt, bothAt};
-ghost use Rattle.mixing.specs.Sides.{cutOf, Voiced, extentAt, voiceIn, Sounding, sideAt, sidedOf, soundsOf, Next, Siding};
+ghost use Rattle.voice_runs.specs.Runs.{oneAt, piece, spare, Paced};
+ghost use Rattle.mixing.specs.Sides.{cutOf, Voiced, Sounding, Pacing, sideAt, sidedOf, soundsOf, Next, Siding};
 use common::limits::WIDTH;
 use reader::Extent;
 use voice::Voice;
-use voice_runs::add_voice;
-use voice_runs::mix_pair;
+use voice_runs::Pace;
 
 // The side that channel i, from 0, is on.
 fn side(i: usize) -> usize
@@ -51,157 +50,112 @@ fn next(channels: usize, voices: [Voice; WIDTH], on: usize, from: usize) -> usiz
     channels
 }
 
-// One channel's frames, stored into its side's cells, and the voices after them.
-fn mix_one(
+// One channel's numbers, spread into cells, and its voice after them.
+fn sound(
     file: &[u8],
-    extents: [Extent; WIDTH],
-    voices: [Voice; WIDTH],
-    i: usize,
+    extent: Extent,
+    voice: Voice,
+    pace: Pace,
     times: u32,
     frames: usize,
-    out: &mut [i16],
-    on: usize,
-) -> [Voice; WIDTH]
-    requires voiced { ⌜ (i < width) × Voiced (now file) (extentAt extents i) (voiceIn voices i) × (0 < extentAt extents i .end) ⌝ }
-    requires fits { ⌜ (times ≤ 2) × (on < 2) × (frameNumbers * frames ≤ length (now out)) ⌝ }
-    ensures moved { λ r. ⌜ r ≡ set voices i (stepsOf (cutOf (now (file .entry)) (extentAt extents i)) frames (voiceIn voices i)) ⌝ }
-    ensures cells { λ _. ⌜ now (out .exit) ≡ laidFrom stored on (numbersFrom (oneAt times (cutOf (now (file .entry)) (extentAt extents i)) (voiceIn voices i)) 0 frames) (now (out .entry)) ⌝ }
+    cells: &mut [i16],
+) -> Voice
+    requires voiced { ⌜ Voiced (now file) extent voice × (0 < extent .end) ⌝ }
+    requires pace { ⌜ Paced (voice .period) pace ⌝ }
+    requires fits { ⌜ (times ≤ 2) × (frames ≤ piece) × (frames + spare ≤ length (now cells)) ⌝ }
+    ensures moved { λ r. ⌜ r ≡ stepsOf (cutOf (now (file .entry)) extent) frames voice ⌝ }
+    ensures numbers { λ _. ⌜ Holds (oneAt times (cutOf (now (file .entry)) extent) voice) frames (now (cells .exit)) ⌝ }
 {
-    let extent = extents[i];
     let from = extent.from;
     let to = extent.to;
-    let bytes = &file[from..to];
-    let p = mix_pair(
-        bytes,
-        voices[i],
-        extent,
-        bytes,
-        Voice::fresh(),
-        extent,
-        times,
-        frames,
-        out,
-        on,
-    );
-    let a = p.a;
-    let mut w = voices;
-    w[i] = a;
-    w
+    voice_runs::spread(&file[from..to], voice, extent, pace, times, frames, cells)
 }
 
-// Two channels' frames, stored into their side's cells, and the voices after them.
-fn mix_two(
-    file: &[u8],
-    extents: [Extent; WIDTH],
-    voices: [Voice; WIDTH],
-    i: usize,
-    j: usize,
-    times: u32,
-    frames: usize,
-    out: &mut [i16],
-    on: usize,
-) -> [Voice; WIDTH]
-    requires first { ⌜ (i < width) × Voiced (now file) (extentAt extents i) (voiceIn voices i) × (0 < extentAt extents i .end) ⌝ }
-    requires second { ⌜ (j < width) × Voiced (now file) (extentAt extents j) (voiceIn voices j) × (0 < extentAt extents j .end) ⌝ }
-    requires fits { ⌜ (times ≤ 2) × (on < 2) × (frameNumbers * frames ≤ length (now out)) ⌝ }
-    ensures moved { λ r. ⌜ r ≡ set (set voices i (stepsOf (cutOf (now (file .entry)) (extentAt extents i)) frames (voiceIn voices i))) j (stepsOf (cutOf (now (file .entry)) (extentAt extents j)) frames (voiceIn voices j)) ⌝ }
-    ensures cells { λ _. ⌜ now (out .exit) ≡ laidFrom stored on (numbersFrom (bothAt times (cutOf (now (file .entry)) (extentAt extents i)) (voiceIn voices i) (cutOf (now (file .entry)) (extentAt extents j)) (voiceIn voices j)) 0 frames) (now (out .entry)) ⌝ }
-{
-    let first = extents[i];
-    let second = extents[j];
-    let from = first.from;
-    let to = first.to;
-    let start = second.from;
-    let stop = second.to;
-    let p = mix_pair(
-        &file[from..to],
-        voices[i],
-        first,
-        &file[start..stop],
-        voices[j],
-        second,
-        times,
-        frames,
-        out,
-        on,
-    );
-    let a = p.a;
-    let b = p.b;
-    let mut w = voices;
-    w[i] = a;
-    w[j] = b;
-    w
-}
-
-// A side begun: the voices after its first channels, and the next channel that sounds on it, or the count.
+// A side begun: the voices after its first channel, and the next channel that sounds on it, or the count.
 struct Begun {
     voices: [Voice; WIDTH],
     next: usize,
 }
 
-// The first two channels that sound on a side, or the one, stored into its cells; zeros if there is none.
+// The first channel that sounds on a side, spread into its cells; zeros if there is none.
 fn begin(
     channels: usize,
     file: &[u8],
     extents: [Extent; WIDTH],
     voices: [Voice; WIDTH],
+    paces: [Pace; WIDTH],
     times: u32,
-    frames: usize,
-    out: &mut [i16],
     on: usize,
+    frames: usize,
+    cells: &mut [i16],
 ) -> Begun
     requires sounding { ⌜ Sounding (now file) extents voices channels ⌝ }
-    requires fits { ⌜ (times ≤ 2) × (on < 2) × (frameNumbers * frames ≤ length (now out)) ⌝ }
-    ensures { λ r. ⌜ Siding (now (file .entry)) extents voices times on channels frames (now (out .entry)) (r .voices) (now (out .exit)) (r .next) ⌝ }
+    requires paced { ⌜ Pacing voices paces channels ⌝ }
+    requires fits { ⌜ (times ≤ 2) × (frames ≤ piece) × (frames + spare ≤ length (now cells)) ⌝ }
+    ensures begun { λ r. ⌜ Siding (now (file .entry)) extents voices times on channels frames (r .voices) (now (cells .exit)) (r .next) ⌝ }
 {
     let a = next(channels, voices, on, 0);
     if channels <= a {
-        runs::store_zeros(frames, out, on);
+        runs::clear(frames, cells);
         return Begun {
             voices,
             next: channels,
         };
     }
-    let b = next(channels, voices, on, a + 1);
-    if channels <= b {
-        let one = mix_one(file, extents, voices, a, times, frames, out, on);
-        return Begun {
-            voices: one,
-            next: channels,
-        };
-    }
-    let two = mix_two(file, extents, voices, a, b, times, frames, out, on);
+    let mut w = voices;
+    w[a] = sound(file, extents[a], voices[a], paces[a], times, frames, cells);
     Begun {
-        voices: two,
-        next: next(channels, voices, on, b + 1),
+        voices: w,
+        next: next(channels, voices, on, a + 1),
     }
 }
 
-// A side's frames, stored into its cells, and the voices after them.
+// A side's numbers, in its cells, and the voices after them. A further channel's are spread into spare cells first.
 pub fn mix_side(
     channels: usize,
     file: &[u8],
     extents: [Extent; WIDTH],
     voices: [Voice; WIDTH],
+    paces: [Pace; WIDTH],
     times: u32,
-    frames: usize,
-    out: &mut [i16],
     on: usize,
+    frames: usize,
+    cells: &mut [i16],
+    further: &mut [i16],
 ) -> [Voice; WIDTH]
     requires sounding { ⌜ Sounding (now file) extents voices channels ⌝ }
+    requires paced { ⌜ Pacing voices paces channels ⌝ }
     requires sides { ⌜ LegalSides channels times ⌝ }
-    requires fits { ⌜ (on < 2) × (frameNumbers * frames ≤ length (now out)) ⌝ }
+    requires side { ⌜ on < 2 ⌝ }
+    requires fits { ⌜ (frames ≤ piece) × (frames + spare ≤ length (now cells)) × (frames + spare ≤ length (now further)) ⌝ }
     ensures moved { λ r. ⌜ r ≡ sidedOf (now (file .entry)) extents voices frames on channels ⌝ }
-    ensures cells { λ _. ⌜ now (out .exit) ≡ laidFrom stored on (numbersFrom (sideAt (now (file .entry)) extents voices times on channels) 0 frames) (now (out .entry)) ⌝ }
+    ensures numbers { λ _. ⌜ Holds (sideAt (now (file .entry)) extents voices times on channels) frames (now (cells .exit)) ⌝ }
+    ensures narrow { λ _. ⌜ Narrow (now (cells .exit)) frames ⌝ }
 {
-    let begun = begin(channels, file, extents, voices, times, frames, out, on);
+    let begun = begin(
+        channels,
+        file,
+        extents,
+        voices,
+        paces,
+        times,
+        on,
+        frames,
+        cells,
+    );
     let mut w = begun.voices;
     let mut i = begun.next;
     while i < channels {
-        let extent = extents[i];
-        let from = extent.from;
-        let to = extent.to;
-        w[i] = add_voice(&file[from..to], voices[i], extent, times, frames, out, on);
+        w[i] = sound(
+            file,
+            extents[i],
+            voices[i],
+            paces[i],
+            times,
+            frames,
+            further,
+        );
+        runs::scratch::add(further, frames, cells);
         i = next(channels, voices, on, i + 1);
     }
     w

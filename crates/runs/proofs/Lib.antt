@@ -1,3 +1,2 @@
-pub mod Sums
-pub mod Storing
-pub mod Gathering
+pub mod Weaving
+pub mod Filling

@@ -1,3 +1,5 @@
+pub mod Lines
 pub mod Cells
 pub mod CellLaws
-pub mod Lines
+pub mod Written
+pub mod Inverses

@@ -4,7 +4,7 @@ use mathlib.Core.Path.{_≡_, refl, sym, ap, subst, _∙_}
 use mathlib.Core.Bool.{true, false, _||_}
 use Prim.Native.Nat.{ℕ, zero, suc, _+_, _-_, _*_, _≤_, _<_}
 use native.Mathlib.Omega.{arith}
-use native.Mathlib.Nat.{div-lt-iff-lt-mul}
+use native.Mathlib.Nat.{zero-add, suc-add, div-lt-iff-lt-mul}
 use lib.Dec.{T, ltb, eqb}
 use lib.IntN.{pos}
 use borrow.Author.Tests.{ltb-true, eqb-false}
@@ -60,6 +60,12 @@ module _ (s : Sample) (v : Voice) where
   unfolding stepsOf
   steps-period zero = refl
   steps-period (suc k) = step-keeps (λ (w : Voice). w .period ≡ v .period) s (stepsOf s k v) (λ i f. steps-period k) (steps-period k) (steps-period k)
+
+-- frames after frames
+pub steps-add : (s : Sample) (m k : ℕ) (v : Voice) → stepsOf s (m + k) v ≡ stepsOf s m (stepsOf s k v)
+unfolding stepsOf
+steps-add s zero k v = rw (zero-add k)
+steps-add s (suc m) k v = rw (suc-add m k) (ap (stepOf s) (steps-add s m k v))
 
 -- ---- a silent voice stays, and gives 0
 pub silent-steps : (s : Sample) (k : ℕ) (v : Voice) → silentOf v ≡ true → stepsOf s k v ≡ v

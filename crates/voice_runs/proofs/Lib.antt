@@ -1,4 +1,5 @@
 pub mod Lines
-pub mod Tables
-pub mod Pairing
-pub mod Adding
+pub mod Weights
+pub mod Moving
+pub mod Bytewise
+pub mod Spreading

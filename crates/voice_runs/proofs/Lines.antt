@@ -3,7 +3,7 @@ use mathlib.Core.Path.{_≡_, refl, sym, ap, ap₂, subst, _∙_}
 use mathlib.Core.Bool.{Bool, true, false, cond}
 use mathlib.Core.List.{List, []}
 use Prim.Native.Nat.{ℕ, zero, suc, _+_, _-_, _*_, _/_, _%_, _≤_, _<_}
-use native.Mathlib.Nat.{suc-mul, zero-mul, mul-zero, le-div-iff-mul-le, div-mul-le-self, mul-le-mul-right, div-le-self}
+use native.Mathlib.Nat.{suc-mul, zero-mul, mul-zero, le-div-iff-mul-le, mul-le-mul-right, lt-of-mul-lt-mul-right}
 use native.Mathlib.Omega.{arith}
 use borrow.Author.Tests.{lt-ltb, le-ltb, ltb-true, ltb-false}
 use lib.Dec.{T, ltb}
@@ -16,7 +16,8 @@ use Rattle.laws.specs.Tests.{or-parts}
 use Rattle.laws.specs.Choice.{either}
 use Rattle.common.specs.LimitFacts.{LegalPeriod}
 use Rattle.common.specs.LimitFacts.LegalPeriod.{silent, sounding}
-use Rattle.runs.specs.Lines.{half64}
+use Rattle.runs.specs.Lines.{parts}
+use Rattle.runs.specs.Inverses.{unit, dividends, mostFrames, Inverse, inverse-is, quotient-low, quotient-high}
 use Rattle.reader.specs.declared.Extent.{Extent}
 use Rattle.reader.specs.Samples.{Sample}
 use Rattle.voice.specs.declared.Voice.{Voice}
@@ -25,23 +26,31 @@ use Rattle.voice.specs.Modules.{sampleWith}
 use Rattle.voice.specs.Frames.{stepsOf, givesAt}
 use Rattle.voice.specs.LegalFacts.{LegalSound}
 use Rattle.voice.specs.Kept.{silent-steps, silent-gives, loud-has, loud-period, loud-index, loud-fraction, growth-small}
-use Rattle.voice_runs.specs.Runs.{soundAt, Span, limitOf, longest, aheadOf, weightOf, landOf, Follows}
+use Rattle.voice_runs.specs.declared.line.Pace.{Pace}
+use Rattle.voice_runs.specs.Runs.{soundAt, Span, limitOf, longest, aheadOf, weightOf, landOf, Follows, Paced}
 
--- ---- how far a run goes
-module _ (from growth limit left n : ℕ) (h : from < limit) (q : n ≡ (limit - 1 - from) / growth + 1) where
-  far : (j : ℕ) → j < n → from + j * growth < limit
-  far j l =
-      let k : j ≤ (limit - 1 - from) / growth = omega arith in
-      omega (arith, mul-le-mul-right growth k, div-mul-le-self (limit - 1 - from) growth)
+-- ---- how far a run goes: n is the way to the limit, rounded up to whole frames
+way-low : (from growth limit : ℕ) → growth < parts → limit ≤ longest * fractions → limit - from + growth - 1 < dividends
+way-low from growth limit h k = omega arith
 
-  pub span-short : n < left → Span from growth limit left n
-  span-short l = record { some = omega arith; most = omega arith; below = λ j i. far j (omega arith) }
+module _ (bytes fraction growth inverse left n : ℕ) (v : Inverse growth inverse) (h : fraction < bytes * fractions) (k : bytes ≤ longest) (q : n ≡ (bytes * fractions - fraction + growth - 1) * inverse / unit) where
+  low : n * growth ≤ bytes * fractions - fraction + growth - 1
+  low = rw q (quotient-low growth inverse _ v (way-low fraction growth (bytes * fractions) (v .slow) (omega arith)))
 
-  pub span-left : left ≤ n → 0 < left → Span from growth limit left left
+  high : bytes * fractions - fraction + growth - 1 < n * growth + growth
+  high = rw q (quotient-high growth inverse _ v (way-low fraction growth (bytes * fractions) (v .slow) (omega arith)))
+
+  some : 0 < n
+  some = lt-of-mul-lt-mul-right growth (let l : 0 * growth < n * growth = omega (arith, high, zero-mul growth) in l)
+
+  far : (j : ℕ) → j < n → fraction + j * growth < bytes * fractions
+  far j l = omega (arith, low, mul-le-mul-right growth l, suc-mul j growth)
+
+  pub span-short : n < left → Span fraction growth (bytes * fractions) left n
+  span-short l = record { some = some; most = omega arith; below = far }
+
+  pub span-left : left ≤ n → 0 < left → Span fraction growth (bytes * fractions) left left
   span-left l z = record { some = z; most = omega arith; below = λ j i. far j (omega arith) }
-
-pub span-low : (bytes fraction growth : ℕ) → bytes ≤ longest → (bytes * fractions - 1 - fraction) / growth < half64
-span-low bytes fraction growth h = omega (arith, div-le-self (bytes * fractions - 1 - fraction) growth)
 
 -- ---- where it ends
 limit-above : (i end : ℕ) → i < end → i < limitOf i end
@@ -73,18 +82,18 @@ ahead-is : (i end : ℕ) → i < end → (0 < aheadOf i end) × (aheadOf i end �
 unfolding aheadOf
 ahead-is i end h = let k = limit-above i end h in (omega arith, omega arith, omega arith)
 
--- ---- a voice sounding grows
-growth-some : {p : ℕ} → LegalPeriod p → (p ≡ 0 → ⊥) → 0 < growthOf p
+-- ---- a voice that sounds stays in a byte for sixteen frames at most
+growth-brief : {p : ℕ} → LegalPeriod p → (p ≡ 0 → ⊥) → parts ≤ mostFrames * growthOf p
 unfolding growthOf
-growth-some silent n = absurd (n refl)
-growth-some {p} (sounding l h) n =
+growth-brief silent n = absurd (n refl)
+growth-brief {p} (sounding l h) n =
     let z : 0 < rateTenths * p = omega arith in
-    let m : 1 * (rateTenths * p) ≤ palClock * fractions = omega arith in
-    le-div-iff-mul-le z .1 m
+    let m : 4096 * (rateTenths * p) ≤ palClock * fractions = omega arith in
+    omega (arith, le-div-iff-mul-le z .1 m)
 
 module _ (end : ℕ) (v : Voice) (l : LegalSound end v) (loud : silentOf v ≡ false) where
-  pub growth-more : (g : ℕ) → g ≡ growthOf (v .period) → 0 < g
-  growth-more g q = rw q (growth-some (l .period) (loud-has v loud .1 .1))
+  pub pace-inverse : (p : Pace) → Paced (v .period) p → Inverse (p .growth) (p .inverse)
+  pace-inverse p q = inverse-is (p .growth) (p .inverse) (rw (q .growth) (growth-brief (l .period) (loud-has v loud .1 .1))) (q .slow) (q .inverse)
 
   pub ahead-above : (bytes : ℕ) → bytes ≡ aheadOf (v .index) end → v .fraction < bytes * fractions
   ahead-above bytes e = omega (arith, loud-fraction end v l loud, ahead-is (v .index) end (loud-index end v l loud))
@@ -108,6 +117,8 @@ follows-silent x v left l h z =
       some = z;
       slow = omega arith;
       low = omega (arith, mul-zero left, silent-inside (x .end) v l (suc (x .end)) (omega arith) (omega arith));
+      part = silent-inside (x .end) v l (suc (x .end)) (omega arith) (omega arith) .1;
+      sounds = λ q. absurd (subst T q tt);
       inside = λ n e o j _. omega (arith, mul-zero j, silent-inside (x .end) v l n e o);
       before = λ j _ q. absurd (subst T (sym h ∙ q) tt);
       gives = λ bytes j _. silent-gives (sampleWith bytes x) v h j ∙ sym (*ℤ-zero (soundAt (drop (v .index) bytes) (v .fraction) 0 j));
@@ -202,6 +213,8 @@ follows-loud x v left growth count bytes l loud q slow e m =
       low =
           let last : count ≡ suc (count - 1) = omega (arith, m .some) in
           omega (arith, n .below (count - 1) (omega (arith, m .some)), ap (λ z. z * growth) last, suc-mul (count - 1) growth);
+      part = loud-fraction (x .end) v l loud;
+      sounds = λ _. (loud, q);
       inside = λ k h _ j i. omega (arith, n .below j i);
       before = λ j i _. omega (arith, n .below j i);
       gives = λ b j i. run-gives (sampleWith b x) v l loud growth q left count n j i;

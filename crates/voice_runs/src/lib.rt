@@ -1,94 +1,40 @@
-// Voices in runs: up to its sample's end a voice is a line through bytes, and a byte's number is found in a table. Two voices of a side are stored
-// together, up to the nearest end of either; a further one is added.
+// Voices in runs: up to its sample's end a voice is a line through bytes, and its numbers are written byte by byte into cells.
 ghost use mathlib.Core.Path.{_≡_};
-ghost use Prim.Native.Nat.{ℕ, _+_, _*_, _<_, _≤_};
-ghost use lib.ListN.{length, getD};
-ghost use lib.IntN.{pos, _+ℤ_};
-ghost use Rattle.runs.specs.Cells.{stride, numbersFrom, laidFrom, stored};
-ghost use Rattle.runs.specs.Lines.{Table, Roomy};
-ghost use Rattle.voice.specs.Voice.{growthOf, fractions};
+ghost use Prim.Native.Nat.{_+_, _*_, _<_, _≤_};
+ghost use lib.ListN.{length};
+ghost use Rattle.common.specs.LimitFacts.{LegalPeriod};
+ghost use Rattle.runs.specs.Cells.{Holds};
 ghost use Rattle.voice.specs.Modules.{sampleWith};
 ghost use Rattle.voice.specs.Frames.{stepsOf};
 ghost use Rattle.voice.specs.LegalFacts.{LegalSound, LoopInside};
-ghost use Rattle.voice_runs.specs.Runs.{Products, oneAt, bothAt, Ran, Added};
-ghost use Rattle.voice_runs.specs.Adding.{Room};
+ghost use Rattle.voice_runs.specs.Runs.{piece, spare, Paced, oneAt, Spread};
+use crate::bytes::fill_run;
+use crate::inverses::inverse;
+pub use crate::line::Pace;
 use crate::line::after;
 use crate::line::follow;
-use crate::products::BYTES;
-use crate::products::chosen;
-use crate::products::table;
 use reader::Extent;
-use runs::FRAME_NUMBERS;
 use voice::Voice;
 
+mod bytes;
+mod inverses;
 mod line;
-mod products;
 
-fn least(x: usize, y: usize) -> usize
-    requires { ⌜ (0 < x) × (0 < y) ⌝ }
-    ensures { λ r. ⌜ (r ≤ x) × (r ≤ y) × (0 < r) ⌝ }
+// Frames are spread in pieces of at most so many.
+pub const PIECE: usize = 1024;
+
+// Behind a piece, cells that may be written over.
+pub const SPARE: usize = 16;
+
+// The pace of a voice of this period.
+pub fn pace(period: u32) -> Pace
+    requires { ⌜ LegalPeriod period ⌝ }
+    ensures { λ r. ⌜ Paced period r ⌝ }
 {
-    if x < y { x } else { y }
-}
-
-// Two voices after a number of frames.
-pub struct Pair {
-    pub a: Voice,
-    pub b: Voice,
-    pub frames: usize,
-}
-
-// Some of the frames that are left, of two voices, stored into a side's cells from `at` on.
-fn mix_run<'a>(
-    a: &[u8],
-    v: Voice,
-    ea: Extent,
-    ga: u32,
-    ta: &'a [i16],
-    b: &[u8],
-    u: Voice,
-    eb: Extent,
-    gb: u32,
-    tb: &'a [i16],
-    zeros: &'a [i16],
-    left: usize,
-    out: &mut [i16],
-    at: usize,
-) -> Pair
-    requires first { ⌜ LegalSound (ea .end) v ⌝ }
-    requires second { ⌜ LegalSound (eb .end) u ⌝ }
-    requires growing { ⌜ (ga ≡ growthOf (v .period)) × (ga < fractions) × (gb ≡ growthOf (u .period)) × (gb < fractions) ⌝ }
-    requires wholea { ⌜ (ea .end ≤ length (now a)) × (0 < length (now a)) ⌝ }
-    requires wholeb { ⌜ (eb .end ≤ length (now b)) × (0 < length (now b)) ⌝ }
-    requires tables { ⌜ Table (now ta) × Table (now tb) ⌝ }
-    requires zeros { ⌜ Products 0 (now zeros) ⌝ }
-    requires fits { ⌜ (0 < left) × (at + stride * left ≤ length (now out) + 1) ⌝ }
-    ensures { λ r. ⌜ Ran (now (a .entry)) ea v (now (ta .entry)) (now (b .entry)) eb u (now (tb .entry)) left at (now (out .entry)) (now (out .exit)) (r .a) (r .b) (r .frames) ⌝ }
-{
-    let x = follow(v, ea, ga, left);
-    let y = follow(u, eb, gb, left);
-    let n = least(x.count, y.count);
-    let i = v.index as usize;
-    let j = u.index as usize;
-    let fa = v.fraction as usize;
-    let fb = u.fraction as usize;
-    runs::store_pair(
-        &a[i..],
-        chosen(x.quiet, zeros, ta),
-        fa,
-        x.growth,
-        &b[j..],
-        chosen(y.quiet, zeros, tb),
-        fb,
-        y.growth,
-        n,
-        out,
-        at,
-    );
-    Pair {
-        a: after(v, ea, ga, x, n),
-        b: after(u, eb, gb, y, n),
-        frames: n,
+    let growth = voice::rate(period);
+    Pace {
+        growth,
+        inverse: inverse(growth as usize),
     }
 }
 
@@ -98,133 +44,70 @@ struct Single {
     frames: usize,
 }
 
-// Some of the frames that are left, of one voice, added to a side's cells from `at` on.
-fn add_run<'a>(
-    a: &[u8],
-    v: Voice,
-    ea: Extent,
-    ga: u32,
+// Some of the frames that are left, of a voice at a weight, written into the cells from `at` on.
+fn spread_run(
+    bytes: &[u8],
+    voice: Voice,
+    extent: Extent,
+    pace: Pace,
+    weight: u32,
     left: usize,
-    ta: &'a [i16],
-    zeros: &'a [i16],
-    out: &mut [i16],
+    cells: &mut [i16],
     at: usize,
 ) -> Single
-    requires legal { ⌜ LegalSound (ea .end) v ⌝ }
-    requires growing { ⌜ (ga ≡ growthOf (v .period)) × (ga < fractions) ⌝ }
-    requires whole { ⌜ (ea .end ≤ length (now a)) × (0 < length (now a)) ⌝ }
-    requires table { ⌜ Table (now ta) ⌝ }
-    requires zeros { ⌜ Products 0 (now zeros) ⌝ }
-    requires room { ⌜ Roomy (now ta) (now out) at left ⌝ }
-    requires fits { ⌜ (0 < left) × (at + stride * left ≤ length (now out) + 1) ⌝ }
-    ensures { λ r. ⌜ Added (now (a .entry)) ea v (now (ta .entry)) left at (now (out .entry)) (now (out .exit)) (r .voice) (r .frames) ⌝ }
+    requires legal { ⌜ LegalSound (extent .end) voice ⌝ }
+    requires pace { ⌜ Paced (voice .period) pace ⌝ }
+    requires whole { ⌜ (extent .end ≤ length (now bytes)) × (0 < length (now bytes)) ⌝ }
+    requires fits { ⌜ (weight ≤ 128) × (0 < left) × (at + left ≤ piece) × (at + left + spare ≤ length (now cells)) ⌝ }
+    ensures { λ r. ⌜ Spread (now (bytes .entry)) extent voice weight left at (now (cells .entry)) (now (cells .exit)) (r .voice) (r .frames) ⌝ }
 {
-    let x = follow(v, ea, ga, left);
-    let n = x.count;
-    let i = v.index as usize;
-    let fa = v.fraction as usize;
-    runs::add_line(
-        &a[i..],
-        chosen(x.quiet, zeros, ta),
-        fa,
-        x.growth,
+    let line = follow(voice, extent, pace, left);
+    let n = line.count;
+    let i = voice.index as usize;
+    let from = voice.fraction as usize;
+    fill_run(
+        &bytes[i..],
+        line.quiet,
+        weight,
+        from,
+        line.growth,
+        pace.inverse,
         n,
-        out,
+        cells,
         at,
     );
     Single {
-        voice: after(v, ea, ga, x, n),
+        voice: after(voice, extent, pace.growth, line, n),
         frames: n,
     }
 }
 
-// A voice's frames, added to the cells of its side, and the voice after them.
-pub fn add_voice(
+// A voice's numbers of the next frames, each so many times, into the front of cells, and the voice after them. The cells behind them may be written over.
+pub fn spread(
     bytes: &[u8],
     voice: Voice,
     extent: Extent,
+    pace: Pace,
     times: u32,
     frames: usize,
-    out: &mut [i16],
-    side: usize,
+    cells: &mut [i16],
 ) -> Voice
     requires looping { ⌜ LoopInside (sampleWith (now bytes) extent) ⌝ }
     requires legal { ⌜ LegalSound (extent .end) voice ⌝ }
+    requires pace { ⌜ Paced (voice .period) pace ⌝ }
     requires whole { ⌜ (extent .end ≤ length (now bytes)) × (0 < length (now bytes)) ⌝ }
-    requires fits { ⌜ (0 < times) × (times ≤ 2) × (side < 2) × (stride * frames ≤ length (now out)) ⌝ }
-    requires room { ⌜ ((k : ℕ) → k < frames → Room times (getD (now out) (side + stride * k) (pos 0))) ⌝ }
+    requires fits { ⌜ (times ≤ 2) × (frames ≤ piece) × (frames + spare ≤ length (now cells)) ⌝ }
     ensures moved { λ r. ⌜ r ≡ stepsOf (sampleWith (now (bytes .entry)) extent) frames voice ⌝ }
-    ensures added { λ _. ⌜ now (out .exit) ≡ laidFrom _+ℤ_ side (numbersFrom (oneAt times (sampleWith (now (bytes .entry)) extent) voice) 0 frames) (now (out .entry)) ⌝ }
+    ensures numbers { λ _. ⌜ Holds (oneAt times (sampleWith (now (bytes .entry)) extent) voice) frames (now (cells .exit)) ⌝ }
+    ensures long { λ _. ⌜ length (now (cells .exit)) ≡ length (now (cells .entry)) ⌝ }
 {
-    let zeros = [0i16; BYTES];
-    let products = table(voice.volume * times);
-    let g = voice::rate(voice.period);
-    let mut w = voice;
+    let weight = voice.volume * times;
+    let mut v = voice;
     let mut k = 0;
     while k < frames {
-        let left = frames - k;
-        let at = side + FRAME_NUMBERS * k;
-        let p = add_run(bytes, w, extent, g, left, &products, &zeros, out, at);
-        w = p.voice;
-        k += p.frames;
+        let run = spread_run(bytes, v, extent, pace, weight, frames - k, cells, k);
+        v = run.voice;
+        k += run.frames;
     }
-    w
-}
-
-// The frames of two voices of a side, stored into its cells, and the voices after them.
-pub fn mix_pair(
-    a: &[u8],
-    v: Voice,
-    ea: Extent,
-    b: &[u8],
-    u: Voice,
-    eb: Extent,
-    times: u32,
-    frames: usize,
-    out: &mut [i16],
-    side: usize,
-) -> Pair
-    requires loops { ⌜ LoopInside (sampleWith (now a) ea) × LoopInside (sampleWith (now b) eb) ⌝ }
-    requires legal { ⌜ LegalSound (ea .end) v × LegalSound (eb .end) u ⌝ }
-    requires wholea { ⌜ (ea .end ≤ length (now a)) × (0 < length (now a)) ⌝ }
-    requires wholeb { ⌜ (eb .end ≤ length (now b)) × (0 < length (now b)) ⌝ }
-    requires fits { ⌜ (times ≤ 2) × (side < 2) × (stride * frames ≤ length (now out)) ⌝ }
-    ensures first { λ r. ⌜ r .a ≡ stepsOf (sampleWith (now (a .entry)) ea) frames v ⌝ }
-    ensures second { λ r. ⌜ r .b ≡ stepsOf (sampleWith (now (b .entry)) eb) frames u ⌝ }
-    ensures cells { λ _. ⌜ now (out .exit) ≡ laidFrom stored side (numbersFrom (bothAt times (sampleWith (now (a .entry)) ea) v (sampleWith (now (b .entry)) eb) u) 0 frames) (now (out .entry)) ⌝ }
-{
-    let zeros = [0i16; BYTES];
-    let ta = table(v.volume * times);
-    let tb = table(u.volume * times);
-    let ga = voice::rate(v.period);
-    let gb = voice::rate(u.period);
-    let mut x = v;
-    let mut y = u;
-    let mut k = 0;
-    while k < frames {
-        let p = mix_run(
-            a,
-            x,
-            ea,
-            ga,
-            &ta,
-            b,
-            y,
-            eb,
-            gb,
-            &tb,
-            &zeros,
-            frames - k,
-            out,
-            side + FRAME_NUMBERS * k,
-        );
-        x = p.a;
-        y = p.b;
-        k += p.frames;
-    }
-    Pair {
-        a: x,
-        b: y,
-        frames: k,
-    }
+    v
 }

@@ -4,24 +4,34 @@ ghost use mathlib.Core.Bool.{false};
 ghost use mathlib.Core.List.{[]};
 ghost use Prim.Native.Nat.{_+_, _*_, _/_, _<_, _≤_};
 ghost use Rattle.runs.specs.Lines.{half64};
+ghost use Rattle.runs.specs.Inverses.{Inverse};
 ghost use Rattle.voice.specs.Voice.{silentOf, growthOf, fractions};
 ghost use Rattle.voice.specs.Modules.{sampleWith};
 ghost use Rattle.voice.specs.Frames.{stepsOf};
 ghost use Rattle.voice.specs.LegalFacts.{LegalSound};
-ghost use Rattle.voice_runs.specs.Runs.{Span, limitOf, longest, aheadOf, landOf, Follows};
+ghost use Rattle.voice_runs.specs.Runs.{Span, limitOf, longest, aheadOf, landOf, Follows, Paced};
+use crate::inverses::UNIT;
 use reader::Extent;
 use voice::FRACTIONS;
 use voice::Voice;
 
 // A run takes at most so many bytes of a sample.
-const LONGEST: u32 = 65535;
+const LONGEST: u32 = 1024;
+
+// A voice's pace: how much its fraction grows in a frame, and the inverse of that.
+pub struct Pace {
+    pub growth: u32,
+    pub inverse: usize,
+}
 
 // How many of the frames that are left begin within so many bytes.
-fn span(fraction: u32, growth: u32, bytes: u32, left: usize) -> usize
-    requires { ⌜ (fraction < bytes * fractions) × (bytes ≤ longest) × (0 < growth) × (0 < left) ⌝ }
-    ensures { λ r. ⌜ Span fraction growth (bytes * fractions) left r ⌝ }
+fn span(fraction: u32, pace: Pace, bytes: u32, left: usize) -> usize
+    requires inside { ⌜ (fraction < bytes * fractions) × (bytes ≤ longest) × (0 < left) ⌝ }
+    requires pace { ⌜ Inverse (pace .growth) (pace .inverse) ⌝ }
+    ensures { λ r. ⌜ Span fraction (pace .growth) (bytes * fractions) left r ⌝ }
 {
-    let n = ((bytes * FRACTIONS - 1 - fraction) / growth) as usize + 1;
+    let way = (bytes * FRACTIONS - fraction + pace.growth - 1) as usize;
+    let n = way * pace.inverse / UNIT;
     if n < left {
         return n;
     }
@@ -60,9 +70,9 @@ pub struct Line {
     pub count: usize,
 }
 
-pub fn follow(voice: Voice, extent: Extent, growth: u32, left: usize) -> Line
+pub fn follow(voice: Voice, extent: Extent, pace: Pace, left: usize) -> Line
     requires legal { ⌜ LegalSound (extent .end) voice ⌝ }
-    requires growing { ⌜ (growth ≡ growthOf (voice .period)) × (growth < fractions) ⌝ }
+    requires pace { ⌜ Paced (voice .period) pace ⌝ }
     requires some { ⌜ 0 < left ⌝ }
     ensures line { λ r. ⌜ Follows extent voice (r .quiet) (r .growth) (r .count) ⌝ }
     ensures most { λ r. ⌜ r .count ≤ left ⌝ }
@@ -75,10 +85,10 @@ pub fn follow(voice: Voice, extent: Extent, growth: u32, left: usize) -> Line
         };
     }
     let index = voice.index;
-    let n = span(voice.fraction, growth, ahead(index, extent.end), left);
+    let n = span(voice.fraction, pace, ahead(index, extent.end), left);
     Line {
         quiet: index < 2,
-        growth: growth as usize,
+        growth: pace.growth as usize,
         count: n,
     }
 }

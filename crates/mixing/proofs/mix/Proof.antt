@@ -1,7 +1,7 @@
--- No voice sounds: the frames are zeros. Otherwise the two sides, one after the other, are the frames, and their voices together all that moved.
+-- No voice sounds: the frames are zeros. Otherwise the pieces together are the frames, and the voices after them all that moved.
 use borrow.Author.Needs.{needs}
 use Rattle.laws.specs.Tests.{called}
-use Rattle.mixing.proofs.Mixing.{scale-legal, samples-known, offsets-low, told-sounding, left-sounding, sides-mixed, sides-moved, silent-moved, silent-mixed}
+use Rattle.mixing.proofs.Mixing.{scale-legal, samples-known, offsets-low, told-sounding, pieces-moved, pieces-mixed, silent-moved, silent-mixed}
 use Rattle.mixing.proofs.mix.Statement.{statement}
 use Rattle.mixing.proofs.mix.Tie as tie
 
@@ -19,24 +19,18 @@ returns c =
     let q = called _ _ _ (c .before .before .before .before .quiet .ensures) (c .before .before .before .if1 .taken) in
     (silent-moved _ _ _ _ _ (p .0) (p .1 .0) _ _ f t q _, silent-mixed _ _ _ _ _ (p .0) (p .1 .0) _ _ f t q _ _ _ (c .before .clear .ensures))
 
-mix-side-requires : tie.Need-mix-side-requires
-mix-side-requires c κs =
+mix-pieces-requires : tie.Need-mix-pieces-requires
+mix-pieces-requires c κs =
     let p = c .before .before .before .before .before .before .before .pre in
-    (told-sounding _ _ _ _ _ (p .0) (p .1 .0) _ _ (c .before .before .before .before .before .named .ensures) (c .before .before .before .before .tell .ensures), (scale-legal _ _ _ _ _ (p .0) (p .1 .0) _ (c .before .scale .ensures), (search needs, p .1 .1)))
-
-mix-side-requires-2 : tie.Need-mix-side-requires-2
-mix-side-requires-2 c κs =
-    let p = c .before .before .before .before .before .before .before .before .before .before .pre in
-    (left-sounding _ _ _ _ _ (p .0) (p .1 .0) _ _ (c .before .before .before .before .before .before .before .before .named .ensures) (c .before .before .before .before .before .before .before .tell .ensures) _ _ (c .before .before .mix-side .ensures .0), (scale-legal _ _ _ _ _ (p .0) (p .1 .0) _ (c .before .before .before .before .scale .ensures), (search needs, search needs)))
+    (told-sounding _ _ _ _ _ (p .0) (p .1 .0) _ _ (c .before .before .before .before .before .named .ensures) (c .before .before .before .before .tell .ensures), (scale-legal _ _ _ _ _ (p .0) (p .1 .0) _ (c .before .scale .ensures), p .1 .1))
 
 returns-2 : tie.Need-returns-2
 returns-2 c =
-    let p = c .before .before .before .before .before .before .before .before .before .before .before .before .pre in
-    let f = c .before .before .before .before .before .before .before .before .before .before .named .ensures in
-    let t = c .before .before .before .before .before .before .before .before .before .tell .ensures in
-    let l = c .before .before .before .before .mix-side .ensures in
-    let r = c .before .mix-side2 .ensures in
-    (sides-moved _ _ _ _ _ (p .0) (p .1 .0) _ _ f t _ _ (l .0) _ (r .0), sides-mixed _ _ _ _ _ (p .0) (p .1 .0) _ _ f t _ _ (l .0) _ _ _ _ (c .before .before .before .before .before .before .scale .ensures) (p .1 .1) (l .1) (r .1))
+    let p = c .before .before .before .before .before .before .before .before .before .pre in
+    let f = c .before .before .before .before .before .before .before .named .ensures in
+    let t = c .before .before .before .before .before .before .tell .ensures in
+    let e = c .before .mix-pieces .ensures in
+    (pieces-moved _ _ _ _ _ (p .0) (p .1 .0) _ _ f t _ _ (e .0), pieces-mixed _ _ _ _ _ (p .0) (p .1 .0) _ _ f t _ _ _ _ (c .before .before .before .scale .ensures) (p .1 .1) (e .1))
 
 pub mix-spec : {M : Type 1} → statement M
 mix-spec =
@@ -50,7 +44,6 @@ mix-spec =
     (λ c. search needs)
     returns
     (λ c κs. search needs)
-    mix-side-requires
-    mix-side-requires-2
+    mix-pieces-requires
     (λ c. search needs)
     returns-2)

@@ -3,52 +3,53 @@
 use borrow.Author.Needs.{needs}
 use Prim.Native.Nat.{ℕ, _-_, _<_}
 use native.Mathlib.Omega.{arith}
-use mathlib.Core.List.{List}
+use mathlib.Core.Path.{refl}
 use lib.ListN.{getD}
-use lib.IntN.{ℤ}
-use Rattle.voice.specs.declared.Voice.{Voice}
-use Rattle.mixing.specs.Sides.{Sounding, Siding}
-use Rattle.mixing.proofs.Continuing.{Continuing, further-same, further-fits, further-order, further-inside, further-loop, further-whole, further-some, further-legal, further-room, further-more, further-voices, further-cells}
+use Rattle.mixing.proofs.Continuing.{Continuing, further-voiced, further-some, further-paced, further-roomy, further-more, further-voices, further-sums, further-narrow}
 use Rattle.mixing.proofs.side.mix_side.Statement.{statement}
 use Rattle.mixing.proofs.side.mix_side.Tie as tie
 
 abbrev Inv-loop : tie.InvT-loop
-Inv-loop channels file times frames out₀ on extents voices w₀ i₀ out w i = Sounding file extents voices channels × ((old : List ℤ) → Continuing file extents voices times on channels frames old out₀ w₀ i₀ → Continuing file extents voices times on channels frames old out w i)
+Inv-loop channels file times on frames cells₀ further₀ extents voices paces w₀ i₀ cells further w i = Continuing file extents voices paces times on channels frames cells₀ further₀ cells further w i
 
 abbrev μ-loop : tie.MeasureT-loop
-μ-loop channels file times frames out₀ on extents voices w₀ i₀ out w i = channels - i
+μ-loop channels file times on frames cells₀ further₀ extents voices paces w₀ i₀ cells further w i = channels - i
 
 bytes : (c : tie.After-shared-slice-known Inv-loop μ-loop) (k : ℕ) → getD (c .before .args .file .now) k 0 < 256
 bytes c k = omega (arith, c .shared-slice-known .given k)
 
 begin-requires : tie.Need-begin-requires Inv-loop μ-loop
-begin-requires c κs = let p = c .before .before .pre in (p .0, (p .1 .0 .scale .1, p .1 .1 .0, p .1 .1 .1))
-
--- the side as it was begun
-begun : (c : tie.After-begin Inv-loop μ-loop) {out : List ℤ} {w : List Voice} {i : ℕ} → Siding (c .before .before .before .args .file .now) (c .before .before .before .args .t3) (c .before .before .before .args .t4) (c .before .before .before .args .times) (c .before .before .before .args .on) (c .before .before .before .args .channels) (c .before .before .before .args .frames) (c .before .before .before .args .out .now) w out i → Continuing (c .before .before .before .args .file .now) (c .before .before .before .args .t3) (c .before .before .before .args .t4) (c .before .before .before .args .times) (c .before .before .before .args .on) (c .before .before .before .args .channels) (c .before .before .before .args .frames) (c .before .before .before .args .out .now) out w i
-begun c s = let p = c .before .before .before .pre in record { sounding = p .0; sides = p .1 .0; bytes = bytes (c .before .before); fits = p .1 .1; siding = s }
+begin-requires c κs = let p = c .before .before .pre in (p .0, (p .1 .0, (p .1 .1 .0 .scale .1, p .1 .1 .1 .1 .0, p .1 .1 .1 .1 .1)))
 
 loop-holds : tie.Need-loop-holds Inv-loop μ-loop
-loop-holds c = (c .before .before .before .before .before .pre .0, λ old m. m)
+loop-holds c =
+    let p = c .before .before .before .before .before .pre in
+    record { sounding = p .0; pacing = p .1 .0; sides = p .1 .1 .0; bytes = bytes (c .before .before .before .before); on = p .1 .1 .1 .0; short = p .1 .1 .1 .1 .0; fits = search needs; same = search (refl, needs); siding = c .before .before .begin .ensures }
 
-add-voice-requires : tie.Need-add-voice-requires Inv-loop μ-loop
-add-voice-requires c κs =
-    let m = c .before .before .before .before .before .loop .inv .1 _ (begun (c .before .before .before .before .before .before .before .before) (c .before .before .before .before .before .before .before .before .begin .ensures)) in
+sound-requires : tie.Need-sound-requires Inv-loop μ-loop
+sound-requires c κs =
+    let m = c .before .before .before .before .before .loop .inv in
     let h = c .before .before .before .before .loop-test .taken in
-    (further-loop m h, (further-legal m h, ((further-whole m h, further-some m h), ((m .sides .scale .0, m .sides .scale .1, further-fits m .0, further-fits m .1), further-room m h))))
+    ((further-voiced m h, further-some m h), (further-paced m h, (m .sides .scale .1, m .short, m .fits .1)))
+
+add-requires : tie.Need-add-requires Inv-loop μ-loop
+add-requires c κs =
+    let m = c .before .before .before .before .before .before .before .before .before .loop .inv in
+    let h = c .before .before .before .before .before .before .before .before .loop-test .taken in
+    (search needs, further-roomy m h (c .before .before .before .sound .ensures .1))
 
 loop-again : tie.Need-loop-again Inv-loop μ-loop
 loop-again c =
-    let e = c .before .before .add-voice .ensures in
-    (c .before .before .before .before .before .before .before .before .loop .inv .0, λ old m. further-more (c .before .before .before .before .before .before .before .before .loop .inv .1 old m) (c .before .before .before .before .before .before .before .loop-test .taken) (c .next .ensures) (e .0) (e .1))
-
-same-length : tie.Need-same-length Inv-loop μ-loop
-same-length c = let e = further-same (c .before .loop .inv .1 _ (begun (c .before .before .before .before) (c .before .before .before .before .begin .ensures))) in search needs
+    let m = c .before .before .before .before .before .before .before .before .before .before .before .before .loop .inv in
+    let h = c .before .before .before .before .before .before .before .before .before .before .before .loop-test .taken in
+    let e = c .before .before .before .before .before .before .sound .ensures in
+    further-more m h (e .1) (search needs) (search needs) (c .next .ensures) (e .0) (c .before .before .add .ensures)
 
 returns : tie.Need-returns Inv-loop μ-loop
 returns c =
-    let m = c .before .loop .inv .1 _ (begun (c .before .before .before .before) (c .before .before .before .before .begin .ensures)) in
-    (further-voices m (c .loop-test .left), further-cells m (c .loop-test .left))
+    let m = c .before .loop .inv in
+    let h = c .loop-test .left in
+    (further-voices m h, (further-sums m h, further-narrow m h))
 
 pub mix-side-spec : {M : Type 1} → statement M
 mix-side-spec =
@@ -60,17 +61,18 @@ mix-side-spec =
     loop-holds
     (λ c. search needs)
     (λ c. search needs)
-    (λ c. further-order (c .before .before .loop .inv .1 _ (begun (c .before .before .before .before .before) (c .before .before .before .before .before .begin .ensures))) (c .before .loop-test .taken))
-    (λ c. further-order (c .before .before .loop .inv .1 _ (begun (c .before .before .before .before .before) (c .before .before .before .before .before .begin .ensures))) (c .before .loop-test .taken))
-    (λ c. further-inside (c .before .before .loop .inv .1 _ (begun (c .before .before .before .before .before) (c .before .before .before .before .before .begin .ensures))) (c .before .loop-test .taken))
     (λ c. search needs)
     (λ c. search needs)
-    add-voice-requires
     (λ c. search needs)
     (λ c. search needs)
+    sound-requires
+    (λ c. search needs)
+    (λ c. search needs)
+    add-requires
     (λ c. search needs)
     (λ c κs. search needs)
     (λ c. search needs)
     loop-again
-    same-length
+    (λ c. search needs)
+    (λ c. search needs)
     returns)

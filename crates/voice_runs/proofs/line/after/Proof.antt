@@ -1,6 +1,6 @@
 -- The last of the frames is before the end, and the voice is landed from there.
 use borrow.Author.Needs.{needs}
-use Rattle.voice_runs.proofs.Pairing.{last-product, last-place, last-half, last-before, last-lands}
+use Rattle.voice_runs.proofs.Moving.{last-product, last-place, last-half, last-before, last-lands}
 use Rattle.voice_runs.proofs.line.after.Statement.{statement}
 use Rattle.voice_runs.proofs.line.after.Tie as tie
 

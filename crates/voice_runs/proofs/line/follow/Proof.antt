@@ -2,7 +2,7 @@
 use borrow.Author.Needs.{needs}
 use Rattle.laws.specs.Tests.{called}
 use Rattle.voice.specs.Kept.{loud-index}
-use Rattle.voice_runs.proofs.Lines.{follows-silent, follows-loud, growth-more, ahead-above, ahead-most}
+use Rattle.voice_runs.proofs.Lines.{follows-silent, follows-loud, pace-inverse, ahead-above, ahead-most}
 use Rattle.voice_runs.proofs.line.follow.Statement.{statement}
 use Rattle.voice_runs.proofs.line.follow.Tie as tie
 
@@ -13,5 +13,6 @@ follow-spec =
     (λ c κs. search needs)
     (λ c. (search (follows-silent, called, needs), search needs))
     (λ c κs. search (loud-index, called, needs))
-    (λ c κs. (search (ahead-above, called, needs), search (ahead-most, called, needs), search (growth-more, called, needs), search needs))
+    (λ c κs. ((search (ahead-above, called, needs), search (ahead-most, called, needs), search needs), search (pace-inverse, called, needs)))
+    (λ c. search needs)
     (λ c. (search (follows-loud, called, needs), search needs)))
