@@ -1,9 +1,10 @@
-/* What the benchmark prints beside the proved player: the mixing of one tick in C, in three ways. `mix_plain` is the rule, frame by frame.
+/* What the benchmark prints beside the proved player: the mixing of one tick in C, in four ways. `mix_plain` is the rule, frame by frame.
    `mix_sides` and `mix_four` are the fastest that were found, by clang -O3, of portable loops that go over the frames once with the
    voices in registers, are cut at the nearest end, write each cell once and divide for the step once a tick and voice. `mix_sides` takes a
    side after the other, `mix_four` all four voices at once; which is faster depends on the case. Tried, and slower: a position of its own
    for each voice, of 32 or 64 bits; one multiplication for both voices of a side; loops unrolled by hand; one store for both sides; bytes
-   gathered in a buffer first. Not tried: tables of products, vector types, writing all frames of a byte at once. */
+   gathered in a buffer first. Not tried: tables of products, vector types. `mix_bytes` goes the proved mixer's way, with buffers: all frames of
+   a byte at once, voice by voice. */
 #include <stddef.h>
 #include <stdint.h>
 #include <string.h>
@@ -225,5 +226,74 @@ void mix_four(voice *v, int16_t *out, size_t frames) {
         for (int k = 0; k < 4; k++) go_far(&v[k], growths[k], run);
         out += 2 * run;
         frames -= run;
+    }
+}
+
+/* ---- all frames of a byte at once */
+
+enum { PIECE = 1024, TOGETHER = 8, MOST_FRAMES = 16, QUICK = 8192, INVERSE_BITS = 46 };
+
+static void fill(int16_t y, int16_t *cells) {
+    for (size_t j = 0; j < TOGETHER; j++) cells[j] = y;
+}
+
+/* What a voice gives at a weight in a run of frames that comes to no limit, and up to MOST_FRAMES cells more. */
+static void fill_run(const voice *v, int32_t weight, uint32_t growth, uint64_t inverse, size_t frames, int16_t *cells) {
+    const int8_t *byte = v->bytes + v->index;
+    uint64_t due = (65536 - v->fraction + growth - 1) * inverse;
+    for (size_t k = 0; k < frames; k = due >> INVERSE_BITS, due += inverse << 16) {
+        const int16_t y = (int16_t)(*byte++ * weight);
+        fill(y, cells + k);
+        if (growth < QUICK) fill(y, cells + k + TOGETHER);
+    }
+}
+
+static void spread(voice *v, uint32_t growth, uint64_t inverse, size_t frames, int16_t *cells) {
+    for (size_t k = 0, run; k < frames; k += run) {
+        run = frames - k;
+        if (!moves(v)) {
+            memset(cells + k, 0, run * sizeof cells[0]);
+            return;
+        }
+        const uint32_t limit = v->index < SILENT_BYTES ? SILENT_BYTES : v->end;
+        const uint64_t at = (uint64_t)v->index << 16 | v->fraction, way = ((uint64_t)limit << 16) - at;
+        if (way <= (uint64_t)(run - 1) * growth) run = (size_t)((way + growth - 1) * inverse >> INVERSE_BITS);
+        fill_run(v, v->index < SILENT_BYTES ? 0 : 2 * v->volume, growth, inverse, run, cells + k);
+        go_far(v, growth, run);
+    }
+}
+
+/* A side of a piece: the first voice that sounds is spread into its cells, the other added. */
+static void spread_side(voice *v, const int *channels, const uint32_t *growths, const uint64_t *inverses, size_t frames, int16_t *cells) {
+    int16_t further[PIECE + MOST_FRAMES];
+    int sounds = 0;
+    for (int i = 0; i < 2; i++) {
+        const int k = channels[i];
+        if (!moves(&v[k])) continue;
+        spread(&v[k], growths[k], inverses[k], frames, sounds ? further : cells);
+        if (sounds)
+            for (size_t j = 0; j < frames; j++) cells[j] = (int16_t)(cells[j] + further[j]);
+        sounds = 1;
+    }
+    if (!sounds) memset(cells, 0, frames * sizeof cells[0]);
+}
+
+void mix_bytes(voice *v, int16_t *out, size_t frames) {
+    static const int left[2] = {0, 3}, right[2] = {1, 2};
+    int16_t l[PIECE + MOST_FRAMES], r[PIECE + MOST_FRAMES];
+    uint32_t growths[4];
+    uint64_t inverses[4];
+    for (int k = 0; k < 4; k++) {
+        growths[k] = growth(&v[k]);
+        inverses[k] = growths[k] == 0 ? 0 : (1ull << INVERSE_BITS) / growths[k] + 1;
+    }
+    for (size_t at = 0; at < frames; at += PIECE) {
+        const size_t piece = frames - at < PIECE ? frames - at : PIECE;
+        spread_side(v, left, growths, inverses, piece, l);
+        spread_side(v, right, growths, inverses, piece, r);
+        for (size_t k = 0; k < piece; k++) {
+            out[2 * (at + k)] = l[k];
+            out[2 * (at + k) + 1] = r[k];
+        }
     }
 }

@@ -23,13 +23,18 @@ extern "C" {
     fn mix_plain(voices: *mut Voice, out: *mut i16, frames: usize);
     fn mix_sides(voices: *mut Voice, out: *mut i16, frames: usize);
     fn mix_four(voices: *mut Voice, out: *mut i16, frames: usize);
+    fn mix_bytes(voices: *mut Voice, out: *mut i16, frames: usize);
 }
 
-pub const LOOPS: [(&str, Loop); 3] = [
+pub const LOOPS: [(&str, Loop); 4] = [
     ("C, plain", mix_plain),
     ("C, by sides", mix_sides),
     ("C, four at once", mix_four),
+    ("C, by bytes", mix_bytes),
 ];
+
+/// The first loops go over the frames once, with the voices in registers.
+pub const ONE_PASS: usize = 3;
 
 /// The voices of a state that is legal for an accepted module.
 pub fn voices(file: &[u8], state: &State) -> [Voice; 4] {
