@@ -77,10 +77,10 @@ extern "C" {
 
 #define LAMPTHISTLE_VERSION_MAJOR 0
 #define LAMPTHISTLE_VERSION_MINOR 4
-#define LAMPTHISTLE_VERSION_PATCH 0
+#define LAMPTHISTLE_VERSION_PATCH 1
 /* This header's version as one number, and as text. */
 #define LAMPTHISTLE_VERSION (1000000 * LAMPTHISTLE_VERSION_MAJOR + 1000 * LAMPTHISTLE_VERSION_MINOR + LAMPTHISTLE_VERSION_PATCH)
-#define LAMPTHISTLE_VERSION_TEXT "0.4.0"
+#define LAMPTHISTLE_VERSION_TEXT "0.4.1"
 /* Whether cells, refusals and calls of a version are those of this header. */
 #define LAMPTHISTLE_SAME_CELLS(version) ((version) / 1000 == LAMPTHISTLE_VERSION / 1000)
 
