@@ -47,19 +47,30 @@ static void check_waves(void) {
     CHECK(*second(LAMPTHISTLE_VOLUME) == 40);
 }
 
-/* A number of a wave, at its largest and one above. */
-static void check_limit(int which, uint32_t largest) {
+/* A number of a wave that no legal state has: refused, and left as it is. */
+static void check_illegal(int which, uint32_t number) {
     lampthistle_state before;
+    *first(which) = number;
+    before = state;
+    lampthistle_change_page(file, sizeof file, state.cell, answer);
+    CHECK_ANSWER(answer, LAMPTHISTLE_REFUSED_STATE, 0, 0);
+    CHECK(memcmp(&state, &before, sizeof state) == 0);
+}
+
+/* A number of a wave, at its largest, one above, and where its low bits alone would be legal. */
+static void check_limit(int which, uint32_t largest) {
     lampthistle_fresh(state.cell);
     *first(which) = largest;
     lampthistle_change_page(file, sizeof file, state.cell, answer);
     CHECK_ANSWER(answer, LAMPTHISTLE_ACCEPTED, 0, 0);
     CHECK(*first(which) == largest);
-    *first(which) = largest + 1;
-    before = state;
-    lampthistle_change_page(file, sizeof file, state.cell, answer);
-    CHECK_ANSWER(answer, LAMPTHISTLE_REFUSED_STATE, 0, 0);
-    CHECK(memcmp(&state, &before, sizeof state) == 0);
+    check_illegal(which, largest + 1);
+    check_illegal(which, 255);
+    check_illegal(which, 256);
+    check_illegal(which, 256 + largest);
+    check_illegal(which, 65536);
+    check_illegal(which, UINT32_MAX - 255);
+    check_illegal(which, UINT32_MAX);
 }
 
 int main(void) {
