@@ -20,7 +20,7 @@ use Rattle.effects.specs.Legal.{freshChannel}
 use Rattle.voice.specs.declared.Voice.{Voice}
 use Rattle.voice.specs.Frames.{blank}
 use Rattle.player.specs.declared.State.{State}
-use Rattle.cells.specs.Cells.{songCellCount, plainCellCount, waveCellCount, ownCellCount, voiceCellCount, channelCellCount, cellCount, channelPlace, songCells, plainCells, waveCells, ownCells, voiceCells, cellsAt, joined, stateCells, waveNumber, waveOf, channelOf, sampleBy, voiceOf, remainderPlace, songOf, stateOf}
+use Rattle.cells.specs.Cells.{songCellCount, plainCellCount, waveCellCount, ownCellCount, voiceCellCount, channelCellCount, cellCount, channelPlace, songCells, plainCells, waveCells, ownCells, voiceCells, cellsAt, stateCells, waveNumber, waveOf, channelOf, sampleBy, voiceOf, remainderPlace, songOf, stateOf}
 use Rattle.cells.specs.Joined.{partAt, joined-parts, joined-at}
 use Rattle.laws.specs.Ranges.{each}
 use Rattle.common.specs.ByteLaws.{bit-back, bit-most}

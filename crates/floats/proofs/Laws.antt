@@ -1,7 +1,7 @@
 -- Laws for the proofs of the numbers of a frame.
 -- Assumes nothing.
 use mathlib.Core.Path.{_≡_, sym, ap, ap₂, _∙_, subst}
-use Prim.Native.Nat.{_^_, _≤_, _<_}
+use Prim.Native.Nat.{_^_, _<_}
 use native.Mathlib.Omega.{arith}
 use lib.Dec.{T, lt→ltb, le→leb, lit≤, lit<}
 use lib.IntN.{ℤ, pos, negsuc, _+ℤ_}

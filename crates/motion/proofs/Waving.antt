@@ -1,12 +1,12 @@
 -- What the functions of a wave rest on: the sine by its way up, the bound of an entry's product, and a number that goes up or down.
 -- Assumes nothing.
-use Prim.Native.Nat.{ℕ, _+_, _-_, _*_, _%_, _^_, _≤_, _<_}
+use Prim.Native.Nat.{ℕ, _-_, _*_, _^_, _≤_, _<_}
 use mathlib.Core.Path.{_≡_, _∙_, ap}
 use mathlib.Core.Bool.{Bool, true, false}
 use native.Mathlib.Omega.{arith}
 use native.Mathlib.Nat.{mul-le-mul}
 use lib.ListN.{getD}
-use Rattle.motion.specs.Waves.{lastMemory, halfWave, wholeWave, greatestEntry, rising, peakPlace, sine, isRaising, entrySize, offsetSize, wavered}
+use Rattle.motion.specs.Waves.{lastMemory, halfWave, greatestEntry, rising, peakPlace, sine, isRaising, entrySize, offsetSize, wavered}
 use Rattle.motion.specs.Halves.{entry-most}
 use Rattle.motion.specs.declared.Wave.{Wave}
 

@@ -1,6 +1,5 @@
 -- Fresh and legal waves, as the yes/no questions that code answers. LegalFacts has the facts.
 -- Assumes nothing.
-use Prim.Native.Nat.{ℕ}
 use mathlib.Core.Bool.{Bool}
 use mathlib.Core.List.{[], _∷_}
 use lib.Dec.{eqb, leb, ltb}

@@ -1,6 +1,6 @@
 -- A wave is fresh, or legal, exactly where the question is answered by yes: `x-has` and `x-by`. A fresh wave is legal.
 -- Assumes nothing.
-use Prim.Native.Nat.{ℕ, _≤_, _<_}
+use Prim.Native.Nat.{_≤_, _<_}
 use mathlib.Core.Path.{_≡_}
 use mathlib.Core.Bool.{true}
 use borrow.Author.Tests.{le-leb, leb-true, lt-ltb, ltb-true, eqb-true}

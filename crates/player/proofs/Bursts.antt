@@ -1,17 +1,17 @@
 -- A touch and a burst by the verdict of module and state; the burst's answer by the tests before it. Laws over plain variables.
 -- Assumes nothing.
 use Prim.Native.Nat.{ℕ, max, _≤_, _<_}
-use mathlib.Core.Path.{_≡_, refl, sym, ap, subst, _∙_}
+use mathlib.Core.Path.{_≡_, sym, ap, subst, _∙_}
 use mathlib.Core.Bool.{Bool, true, false, not, _&&_}
 use mathlib.Core.List.{List}
-use lib.Dec.{eqb, ltb}
+use lib.Dec.{eqb}
 use lib.ListN.{length}
 use native.Mathlib.Omega.{arith}
 use borrow.Author.Tests.{lt-ltb, le-ltb, eqb-true, not-false}
 use Rattle.laws.specs.Every.{first-of, second-of}
-use Rattle.common.specs.Answers.{refused, accepted, Outcome, outcome, refusing}
+use Rattle.common.specs.Answers.{refused, outcome, refusing}
 use Rattle.common.specs.declared.Answer.{Answer}
-use Rattle.reader.specs.File.{Module, lent, fourChannels, moduleOf, songLength}
+use Rattle.reader.specs.File.{lent, fourChannels, moduleOf, songLength}
 use Rattle.reader.specs.declared.Layout.{Layout}
 use Rattle.player.specs.declared.State.{State}
 use Rattle.player.specs.declared.Reply.{Reply}

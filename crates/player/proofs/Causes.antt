@@ -1,17 +1,15 @@
 -- Why a channel is quiet: a voice's own sample in the file, and the answer by the tests that led to it. Laws over plain variables.
 -- Assumes nothing.
 use Prim.Native.Nat.{ℕ, _-_, _≤_, _<_}
-use mathlib.Core.Path.{_≡_, refl, ap, sym, _∙_}
-use mathlib.Core.Bool.{not, _&&_}
+use mathlib.Core.Path.{_≡_, ap, _∙_}
 use mathlib.Core.List.{List, [], _∷_}
 use native.Mathlib.Omega.{arith}
-use lib.Dec.{ltb, leb}
 use lib.ListN.{length, getD, take, drop}
-use borrow.Author.Tests.{lt-ltb, le-ltb, le-leb, lt-leb}
+use borrow.Author.Tests.{lt-ltb, le-leb, lt-leb}
 use Rattle.laws.specs.Every.{all-at}
 use Rattle.common.specs.Answers.{refused, refusing}
 use Rattle.common.specs.declared.Answer.{Answer}
-use Rattle.reader.specs.File.{Module, lent, fourChannels, moduleOf, channelCount}
+use Rattle.reader.specs.File.{lent, fourChannels, moduleOf}
 use Rattle.reader.specs.Judge.{verdict}
 use Rattle.reader.specs.Accept.{Inside, accepted-has}
 use Rattle.reader.specs.Layouts.{LegalLayout}

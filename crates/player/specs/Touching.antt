@@ -7,7 +7,7 @@ use mathlib.Core.List.{List}
 use lib.ListN.{length, getD}
 use Rattle.laws.specs.Each.{same-partly}
 use Rattle.common.specs.Answers.{refused, accepted, Outcome, outcome, refusing}
-use Rattle.reader.specs.File.{Module, moduleOf, songLength}
+use Rattle.reader.specs.File.{moduleOf, songLength}
 use Rattle.reader.specs.Judge.{verdict}
 use Rattle.player.specs.declared.State.{State}
 use Rattle.player.specs.declared.Reply.{Reply}

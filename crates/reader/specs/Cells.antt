@@ -1,8 +1,6 @@
 -- The cells of the patterns, by position of the song, row and channel.
 -- Assumes nothing.
 use Prim.Native.Nat.{ℕ, _+_, _*_, _/_, _%_}
-use mathlib.Core.Path.{_≡_, ap}
-use native.Mathlib.Omega.{arith}
 use mathlib.Core.Bool.{cond}
 use mathlib.Core.List.{List}
 use lib.Dec.{eqb}
@@ -33,8 +31,3 @@ cellOffset m position row channel = cellPlace (m .layout) (cellsIn (m .layout) (
 
 unfoldable pub cellAt : Module → ℕ → ℕ → ℕ → Cell
 cellAt m position row channel = cellFrom (m .bytes) (cellOffset m position row channel)
-
--- a row's cells stand one behind the other
-pub cell-in : (m : Module) (position row channel at : ℕ) → at ≡ rowOffset m position row → cellFrom (m .bytes) (at + 4 * channel) ≡ cellAt m position row channel
-unfolding cellAt
-cell-in m position row channel at e = ap (cellFrom (m .bytes)) (omega arith)

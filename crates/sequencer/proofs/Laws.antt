@@ -27,7 +27,7 @@ use Rattle.effects.specs.Legal.{freshChannel}
 use Rattle.effects.specs.LegalFacts.{LegalDepths}
 use Rattle.effects.specs.declared.Channel.{Channel}
 use Rattle.effects.specs.declared.Voiced.{Voiced}
-use Rattle.sequencer.specs.Row.{cellOn, rowFlow, flowFrom, flowThrough}
+use Rattle.sequencer.specs.Row.{rowFlow, flowFrom, flowThrough}
 use Rattle.sequencer.specs.RowFacts.{BeginsAt, cell-there}
 use Rattle.sequencer.specs.Songs.{place, songBy, songWork, voicedOn, allVoiced, rowTicks, nextTick}
 use Rattle.sequencer.specs.Legal.{greatestSpeed, lastDelay}

@@ -9,7 +9,7 @@ use native.Mathlib.Omega.{arith}
 use lib.Dec.{T, ltb, eqb}
 use lib.IntN.{ℤ, pos, negsuc, negℤ, _-ℤ_, _*ℤ_}
 use lib.ListN.{getD}
-use borrow.Author.Tests.{eqb-true, eqb-false, ne-eqb, ltb-false}
+use borrow.Author.Tests.{eqb-true, ne-eqb, ltb-false}
 use Rattle.laws.specs.Choice.{either}
 use Rattle.laws.specs.Ranges.{first, some}
 use Rattle.laws.specs.Signed.{sub-neg}

@@ -1,8 +1,6 @@
 -- Two differences joined are the denial of both equalities.
-use Prim.Native.Nat.{ℕ}
 use mathlib.Core.Path.{_≡_, refl}
 use mathlib.Core.Bool.{Bool, true, false, not, _&&_, _||_}
-use lib.Dec.{eqb}
 use borrow.Author.Needs.{needs}
 use Rattle.player.proofs.touching.unequal.Statement.{statement}
 use Rattle.player.proofs.touching.unequal.Tie as tie

@@ -6,7 +6,6 @@ use Prim.Native.Nat.{ℕ}
 use borrow.Author.Tests.{ne-eqb}
 use Rattle.laws.specs.Tests.{tests}
 use Rattle.voice.specs.declared.Voice.{Voice}
-use Rattle.voice.specs.declared.quiet.Cause.{Cause}
 use Rattle.voice.specs.declared.quiet.Cause.the-variants.{ZeroByte, Sounds}
 use Rattle.voice.specs.Quiet.{readsZero, causeOf}
 use borrow.Author.Needs.{needs}
