@@ -1,5 +1,5 @@
-//! A second player of paper 01 and of the requests of paper 02 that have landed, written from the
-//! papers alone, to compare the first one with.
+//! A second player of paper 01, of the requests of paper 02 that have landed and of calls that were
+//! asked for beside them, written from their words alone, to compare the first one with.
 
 mod floats;
 pub mod generate;
@@ -23,7 +23,10 @@ pub use length::{tick_frames, tick_rest};
 pub use play::{change_page, fresh, play, play_floats, trace_tick, Trace};
 pub use quiet::{why_quiet, Cause};
 pub use records::{decode, encode, Command, Stream, Tick};
-pub use stream::{play_stream, play_stream_floats, tick_list, translate};
+pub use stream::{
+    play_stream, play_stream_floats, play_stream_floats_from, play_stream_from, tick_list,
+    translate,
+};
 pub use touch::{touch, touch_burst};
 pub use voice::{growth, End, Voice};
 

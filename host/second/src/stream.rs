@@ -64,12 +64,18 @@ pub fn translate(file: &[u8], ticks: u32, room: &mut [u8]) -> Answer {
 
 /// Plays the largest number of the stream's ticks whose frames fit into `out`.
 pub fn play_stream(bytes: &[u8], file: &[u8], out: &mut [i16]) -> Answer {
+    play_stream_from(bytes, file, 0, out)
+}
+
+/// Plays as `play_stream` does, but from tick `from` on, counted from 0: the ticks before it move
+/// the voices and the remainder, and none of their frames is written.
+pub fn play_stream_from(bytes: &[u8], file: &[u8], from: u32, out: &mut [i16]) -> Answer {
     let module = match Module::read(file) {
         Ok(module) => module,
         Err(refusal) => return refusal,
     };
     match decode(bytes) {
-        Ok(stream) => board(&module, &stream, &mut Numbers::new(out)),
+        Ok(stream) => board(&module, &stream, from, &mut Numbers::new(out)),
         Err(refusal) => refusal,
     }
 }
@@ -79,6 +85,20 @@ pub fn play_stream(bytes: &[u8], file: &[u8], out: &mut [i16]) -> Answer {
 pub fn play_stream_floats(
     bytes: &[u8],
     file: &[u8],
+    sides: u32,
+    out: &mut [f32],
+    pair: &mut [f32; 2],
+    pair_tick: &mut u32,
+) -> Answer {
+    play_stream_floats_from(bytes, file, 0, sides, out, pair, pair_tick)
+}
+
+/// Plays as `play_stream_from` does, but floats for one side or two, with the record as in
+/// `play_stream_floats`; in it tick `from` is 0.
+pub fn play_stream_floats_from(
+    bytes: &[u8],
+    file: &[u8],
+    from: u32,
     sides: u32,
     out: &mut [f32],
     pair: &mut [f32; 2],
@@ -96,22 +116,33 @@ pub fn play_stream_floats(
         Err(refusal) => return refusal,
     };
     let mut floats = Floats::new(out, sides);
-    let answer = board(&module, &stream, &mut floats);
+    let answer = board(&module, &stream, from, &mut floats);
     floats.store_last(pair, pair_tick);
     answer
 }
 
-/// Plays what fits of a stream and counts the ticks.
-fn board(module: &Module, stream: &Stream, output: &mut impl Output) -> Answer {
+/// Plays what fits of a stream from tick `from` on and counts the ticks.
+fn board(module: &Module, stream: &Stream, from: u32, output: &mut impl Output) -> Answer {
+    let from = from as usize;
+    if from >= stream.ticks.len() {
+        return Answer::accepted(0);
+    }
     let mut voices = [Voice::fresh(); CHANNELS];
     let mut played = 0;
-    for (tick, length) in stream.ticks.iter().zip(stream.lengths()) {
-        if length > output.frames_left() {
+    for (number, (tick, length)) in stream.ticks.iter().zip(stream.lengths()).enumerate() {
+        if number >= from && length > output.frames_left() {
             break;
         }
         take_commands(module, &mut voices, tick);
-        output.take(played, length, frames(module, &mut voices));
-        played += 1;
+        let mut next = frames(module, &mut voices);
+        if number < from {
+            for _ in 0..length {
+                next();
+            }
+        } else {
+            output.take(played, length, next);
+            played += 1;
+        }
     }
     Answer::accepted(played as usize)
 }

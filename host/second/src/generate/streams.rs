@@ -51,6 +51,20 @@ pub fn damaged_stream(seed: u64, good: &[u8]) -> Vec<u8> {
     stream
 }
 
+/// The tick from which a stream of so many is played: any of them, often the first, the last, or a
+/// number past it.
+pub fn first_tick(seed: u64, ticks: u32) -> u32 {
+    let mut random = Random::new(seed);
+    match random.below(10) {
+        0 => 0,
+        1 | 2 => ticks.saturating_sub(1),
+        3 => ticks,
+        4 => ticks.saturating_add(1),
+        5 => u32::MAX,
+        _ => random.below(ticks.max(1)),
+    }
+}
+
 pub(super) fn writer(file: &[u8]) -> Writer {
     let module = Module::read(file).expect("the file is accepted");
     let mut sounding = Vec::new();

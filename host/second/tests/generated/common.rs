@@ -2,7 +2,7 @@
 
 use second::generate::modules::{module, Size};
 use second::generate::Random;
-use second::{Answer, STATE_CELLS};
+use second::{Answer, Stream, STATE_CELLS};
 
 pub const UNTOUCHED: i16 = 12_345;
 
@@ -60,6 +60,19 @@ pub fn lengths(tempos: &[u32]) -> Vec<usize> {
         lengths.extend((0..run.len()).map(|tick| first(tick + 1) - first(tick)));
     }
     lengths
+}
+
+/// The frames of a stream's ticks, by its version.
+pub fn stream_lengths(stream: &Stream) -> Vec<usize> {
+    let tempos: Vec<u32> = stream.ticks.iter().map(|tick| tick.tempo).collect();
+    if stream.version == 1 {
+        tempos
+            .iter()
+            .map(|&tempo| 120_000 / tempo as usize)
+            .collect()
+    } else {
+        lengths(&tempos)
+    }
 }
 
 /// The largest number of whole ticks that fit, and the numbers they fill.

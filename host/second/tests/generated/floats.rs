@@ -3,8 +3,12 @@
 use crate::common::*;
 use second::generate::floats::{opposite, record, sides, Record};
 use second::generate::states::{illegal_state, legal_state};
+use second::generate::streams::first_tick;
 use second::generate::Random;
-use second::{fresh, play, play_floats, play_stream_floats, translate, Answer};
+use second::{
+    decode, fresh, play, play_floats, play_stream_floats, play_stream_floats_from,
+    play_stream_from, translate, Answer,
+};
 
 /// What an untouched float holds: a NaN that signals.
 const NAN_BITS: u32 = 0x7F80_0BAD;
@@ -31,6 +35,14 @@ fn board(stream: &[u8], file: &[u8], sides: u32, room: usize, seed: u64) -> Left
     let mut held = record(seed);
     let Record { pair, tick } = &mut held;
     let answer = play_stream_floats(stream, file, sides, &mut out, pair, tick);
+    left(answer, &out, held)
+}
+
+fn board_from(stream: &[u8], file: &[u8], from: u32, sides: u32, room: usize, seed: u64) -> Left {
+    let mut out = vec![f32::from_bits(NAN_BITS); room];
+    let mut held = record(seed);
+    let Record { pair, tick } = &mut held;
+    let answer = play_stream_floats_from(stream, file, from, sides, &mut out, pair, tick);
     left(answer, &out, held)
 }
 
@@ -115,6 +127,31 @@ fn the_boards_floats_and_record_are_the_players() {
 }
 
 #[test]
+fn from_any_tick_floats_are_the_numbers_divided() {
+    for seed in 0..600 {
+        let mut random = Random::new(seed);
+        let file = any_module(seed);
+        let ticks = random.below(12);
+        let mut stream = vec![0; 9 + 26 * ticks as usize];
+        let bytes = translate(&file, ticks, &mut stream).count as usize;
+        stream.truncate(bytes);
+        stream[4] = random.pick(&[1, 2]);
+        let from = first_tick(seed, ticks);
+        let sides = random.pick(&[1, 2]);
+        let frames = buffer_length(&mut random, 4_800);
+        let room = sides as usize * frames + random.below(sides) as usize;
+        let mut numbers = vec![0; 2 * frames];
+        let answer = play_stream_from(&stream, &file, from, &mut numbers);
+        let lengths = stream_lengths(&decode(&stream).expect("translated"));
+        let played = lengths.iter().skip(from as usize);
+        let filled: usize = played.take(answer.count as usize).sum();
+        let expected = divided(answer, &numbers[..2 * filled], sides, room, seed);
+        let board = board_from(&stream, &file, from, sides, room, seed);
+        assert!(board == expected, "seed {seed}");
+    }
+}
+
+#[test]
 fn refusals_keep_floats_and_record() {
     let mut seen = [0; 25];
     for seed in 0..3_000 {
@@ -139,6 +176,8 @@ fn refusals_keep_floats_and_record() {
         assert_eq!(cells, start, "seed {seed}");
         if number == 24 {
             let after = board(&[], &file, asked, 100, seed);
+            assert!(after == untouched(refused(24, 0), 100, seed), "seed {seed}");
+            let after = board_from(&[], &file, first_tick(seed, 9), asked, 100, seed);
             assert!(after == untouched(refused(24, 0), 100, seed), "seed {seed}");
         }
     }

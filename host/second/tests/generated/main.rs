@@ -6,6 +6,7 @@ mod common;
 mod ends;
 mod floats;
 mod lengths;
+mod parts;
 mod playing;
 mod quiet;
 mod states;

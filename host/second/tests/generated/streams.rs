@@ -1,6 +1,6 @@
 //! Generated streams: legal ones play, aimed ones get their refusal, damaged ones change nothing.
 
-use crate::common::{accepted, fitting, lengths, refused, UNTOUCHED};
+use crate::common::{accepted, fitting, refused, stream_lengths, UNTOUCHED};
 use second::generate::modules::{module, Size};
 use second::generate::streams::{bad_stream, damaged_stream, legal_stream};
 use second::{decode, encode, play_stream, tick_list, translate, Stream};
@@ -14,19 +14,6 @@ fn file(seed: u64) -> Vec<u8> {
             Size::Small
         },
     )
-}
-
-/// The frames of a stream's ticks, by its version.
-fn stream_lengths(stream: &Stream) -> Vec<usize> {
-    let tempos: Vec<u32> = stream.ticks.iter().map(|tick| tick.tempo).collect();
-    if stream.version == 1 {
-        tempos
-            .iter()
-            .map(|&tempo| 120_000 / tempo as usize)
-            .collect()
-    } else {
-        lengths(&tempos)
-    }
 }
 
 #[test]

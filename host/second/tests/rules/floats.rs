@@ -3,7 +3,8 @@
 use crate::common::*;
 use second::generate::draft::Draft;
 use second::{
-    delivered, fresh, mono, play, play_floats, play_stream_floats, side, translate, Frame,
+    delivered, fresh, mono, play, play_floats, play_stream_floats, play_stream_floats_from, side,
+    translate, Frame,
 };
 
 /// A NaN whose bits must stay where nothing is stored.
@@ -112,6 +113,16 @@ fn board_floats(draft: &Draft, stream: &[u8], sides: u32, room: usize) -> Left {
     let (mut out, mut pair, mut tick) = (vec![nan; room], [nan; 2], 77);
     let file = draft.bytes();
     let answer = play_stream_floats(stream, &file, sides, &mut out, &mut pair, &mut tick);
+    left(answer, &out, pair, tick)
+}
+
+/// The same of the board from a tick on.
+fn board_floats_from(draft: &Draft, stream: &[u8], from: u32, sides: u32, room: usize) -> Left {
+    let nan = f32::from_bits(NAN_BITS);
+    let (mut out, mut pair, mut tick) = (vec![nan; room], [nan; 2], 77);
+    let file = draft.bytes();
+    let (held, held_tick) = (&mut pair, &mut tick);
+    let answer = play_stream_floats_from(stream, &file, from, sides, &mut out, held, held_tick);
     left(answer, &out, pair, tick)
 }
 
@@ -275,5 +286,73 @@ fn the_board_gives_the_players_floats_and_record() {
         let board = board_floats(&draft, &room[..count], sides, length);
         let player = floats(&draft, &mut fresh(), 4, sides, length);
         assert_eq!(board, player, "{sides} sides, {length}");
+    }
+}
+
+/// The stream of the first ticks of two voices.
+fn two_voices_stream(ticks: u32) -> Vec<u8> {
+    let mut room = vec![0; 9 + 26 * ticks as usize];
+    let count = translate(&two_voices().bytes(), ticks, &mut room).count as usize;
+    room.truncate(count);
+    room
+}
+
+#[test]
+fn from_a_tick_on_the_record_counts_in_the_call() {
+    let (draft, stream) = (two_voices(), two_voices_stream(4));
+    for sides in [1, 2] {
+        let tick = 960 * sides as usize;
+        let whole = board_floats(&draft, &stream, sides, 4 * tick);
+        assert_eq!((whole.answer, whole.tick), (played(4), 3));
+        for from in 0..4 {
+            let begin = from as usize * tick;
+            let rest = board_floats_from(&draft, &stream, from, sides, 4 * tick - begin);
+            assert_eq!(rest.answer, played(u64::from(4 - from)));
+            assert_eq!(rest.bits, whole.bits[begin..], "from {from}");
+            assert_eq!((rest.pair, rest.tick), (whole.pair, 3 - from));
+            let one = board_floats_from(&draft, &stream, from, sides, 2 * tick - 1);
+            assert_eq!((one.answer, one.tick), (played(1), 0));
+            assert_eq!(one.bits[..tick], whole.bits[begin..begin + tick]);
+            assert!(one.bits[tick..].iter().all(|&bits| bits == NAN_BITS));
+        }
+    }
+}
+
+#[test]
+fn without_a_frame_from_a_tick_on_the_record_stays() {
+    let stream = two_voices_stream(4);
+    for sides in [1, 2] {
+        let short = 960 * sides as usize - 1;
+        for (from, room) in [
+            (0, 0),
+            (1, short),
+            (3, short),
+            (4, 4_000),
+            (5, 4_000),
+            (u32::MAX, 4_000),
+        ] {
+            let none = board_floats_from(&two_voices(), &stream, from, sides, room);
+            assert_eq!(none, untouched(played(0), room), "from {from}");
+        }
+    }
+}
+
+#[test]
+fn from_any_tick_24_comes_after_9_and_before_the_stream() {
+    let mut bad = song();
+    bad.put(0, 63, 3, 0, 112, 0);
+    let wrong_record = stream(2, 1, &[16, 125]);
+    for from in [0, 1, 2, u32::MAX] {
+        for (draft, stream, sides, answer) in [
+            (&bad, &wrong_record, 3, refused(9, 2_104)),
+            (&song(), &wrong_record, 3, refused(24, 0)),
+            (&song(), &wrong_record, 0, refused(24, 0)),
+            (&song(), &Vec::new(), 1, refused(21, 0)),
+            (&song(), &stream(3, 1, &[16, 125]), 1, refused(22, 4)),
+            (&song(), &wrong_record, 2, refused(23, 9)),
+        ] {
+            let refusal = board_floats_from(draft, stream, from, sides, 2_000);
+            assert_eq!(refusal, untouched(answer, 2_000), "from {from}");
+        }
     }
 }

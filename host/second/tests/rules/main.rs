@@ -9,6 +9,7 @@ mod floats;
 mod flow;
 mod lengths;
 mod notes;
+mod parts;
 mod quiet;
 mod streams;
 mod voices;
