@@ -16,25 +16,31 @@ use Rattle.voice.specs.declared.Voice.{Voice}
 use Rattle.voice.specs.Frames.{frameNumbers, mixed, moved}
 use Rattle.voice.specs.Moved.{length-mixed}
 use Rattle.machine.specs.declared.Machine.{Machine}
-use Rattle.machine.specs.Lengths.{tickFrames, carriedAt, lengthAt, keptAt}
-use Rattle.machine.specs.Machine.{begins, tickLength, frames, after, mechanism}
+use Rattle.machine.specs.Lengths.{tickFrames, carriedAt, lengthAt}
+use Rattle.machine.specs.Machine.{begins, tickLength, frames, restedAt, after, mechanism}
 use Rattle.machine.specs.Turn.{turn, turnOf}
 
-module _ (keeps : Bool) (c : ℕ) (samples : ℕ → Sample) (w : Machine) (t : Tick) (out : List ℤ) (b n : ℕ) (be : b ≡ carriedAt (w .tempo) (w .remainder) (t .tempo)) (ne : n ≡ lengthAt (t .tempo) b) where
+module _ (keeps : Bool) (c : ℕ) (samples : ℕ → Sample) (w : Machine) (t : Tick) (b n : ℕ) (be : b ≡ carriedAt (w .tempo) (w .remainder) (t .tempo)) (ne : n ≡ lengthAt (t .tempo) b) where
   length-is : n ≡ tickLength w t
   unfolding tickLength begins
   length-is = ne ∙ ap (lengthAt (t .tempo)) be
 
-  -- it does not fit
-  pub tick-full : length out < frameNumbers * n → turn true 0 w out ≡ turnOf (mechanism keeps c samples) w t out
-  unfolding turnOf frames
-  tick-full h = rw (← length-is, length-mixed c samples (w .voices) (t .commands) n, lt-ltb (length out) (frameNumbers * n) h)
+  -- nobody hears it
+  pub tick-passed : (vs : List Voice) (w′ : Machine) → vs ≡ moved c samples (w .voices) (t .commands) n → w′ ≡ restedAt vs keeps (t .tempo) b → w′ ≡ after keeps c samples w t
+  unfolding after begins
+  tick-passed vs w′ q p = rw (← length-is, ← be, p, q)
 
-  -- it does
-  pub tick-played : frameNumbers * n ≤ length out → (vs : List Voice) (k : ℕ) (new : List ℤ) → vs ≡ moved c samples (w .voices) (t .commands) n → k ≡ keptAt keeps (t .tempo) b → new ≡ mixed c samples (w .voices) (t .commands) n ++ drop (frameNumbers * n) out
-      → turn false (frameNumbers * n) (record { voices = vs; tempo = t .tempo; remainder = k }) new ≡ turnOf (mechanism keeps c samples) w t out
-  unfolding turnOf frames after begins
-  tick-played h vs k new q p z = rw (← length-is, ← be, length-mixed c samples (w .voices) (t .commands) n, le-ltb (length out) (frameNumbers * n) h, q, p, z)
+  module _ (out : List ℤ) where
+    -- it does not fit
+    pub tick-full : length out < frameNumbers * n → turn true 0 w out ≡ turnOf (mechanism keeps c samples) w t out
+    unfolding turnOf frames
+    tick-full h = rw (← length-is, length-mixed c samples (w .voices) (t .commands) n, lt-ltb (length out) (frameNumbers * n) h)
+
+    -- it does
+    pub tick-played : frameNumbers * n ≤ length out → (vs : List Voice) (w′ : Machine) (new : List ℤ) → vs ≡ moved c samples (w .voices) (t .commands) n → w′ ≡ restedAt vs keeps (t .tempo) b → new ≡ mixed c samples (w .voices) (t .commands) n ++ drop (frameNumbers * n) out
+        → turn false (frameNumbers * n) w′ new ≡ turnOf (mechanism keeps c samples) w t out
+    unfolding turnOf frames
+    tick-played h vs w′ new q p z = rw (← tick-passed vs w′ q p, ← length-is, length-mixed c samples (w .voices) (t .commands) n, le-ltb (length out) (frameNumbers * n) h, z)
 
 -- a tick's frames are few
 pub frames-few : (tempo remainder : ℕ) → remainder ≤ greatestTempo → (tickFrames + remainder) / tempo ≤ tickFrames + greatestTempo

@@ -12,6 +12,7 @@ use Rattle.ticks.specs.declared.Tick.{Tick}
 use Rattle.ticks.specs.Play.{Mechanism}
 use Rattle.reader.specs.File.{Module, channelCount}
 use Rattle.reader.specs.Samples.{Sample}
+use Rattle.voice.specs.declared.Voice.{Voice}
 use Rattle.voice.specs.Voice.{freshVoice, samplesOf}
 use Rattle.voice.specs.Frames.{mixed, moved}
 use Rattle.machine.specs.declared.Machine.{Machine}
@@ -34,14 +35,13 @@ tickLength w t = lengthAt (t .tempo) (begins w t)
 unfoldable pub frames : ℕ → (ℕ → Sample) → Machine → Tick → List ℤ
 frames channels samples w t = mixed channels samples (w .voices) (t .commands) (tickLength w t)
 
--- the machine after it, which keeps the tick's remainder or, by the old rule, none
+-- a machine with these voices after a tick that began with a remainder: it keeps the tick's remainder or, by the old rule, none
+abbrev pub restedAt : List Voice → Bool → ℕ → ℕ → Machine
+restedAt voices keeps tempo remainder = record { voices = voices; tempo = tempo; remainder = keptAt keeps tempo remainder }
+
+-- the machine after it
 unfoldable pub after : Bool → ℕ → (ℕ → Sample) → Machine → Tick → Machine
-after keeps channels samples w t =
-    record {
-      voices = moved channels samples (w .voices) (t .commands) (tickLength w t);
-      tempo = t .tempo;
-      remainder = keptAt keeps (t .tempo) (begins w t);
-    }
+after keeps channels samples w t = restedAt (moved channels samples (w .voices) (t .commands) (tickLength w t)) keeps (t .tempo) (begins w t)
 
 -- how it plays ticks
 abbrev pub mechanism : Bool → ℕ → (ℕ → Sample) → Mechanism ℤ Machine Tick

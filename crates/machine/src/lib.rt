@@ -1,4 +1,4 @@
-// The machine that player and board share, and one tick of it into a buffer.
+// The machine that player and board share, and one tick of it, into a buffer or passed by.
 ghost use mathlib.Core.Path.{_≡_};
 ghost use Prim.Native.Nat.{_+_, _<_, _≤_};
 ghost use lib.ListN.{length};
@@ -8,7 +8,7 @@ ghost use Rattle.reader.specs.Layouts.{LegalLayout};
 ghost use Rattle.voice.specs.LegalFacts.{Ready};
 ghost use Rattle.common.specs.Limits.{greatestTempo};
 ghost use Rattle.machine.specs.Lengths.{tickFrames, carriedAt, lengthAt, keptAt};
-ghost use Rattle.machine.specs.Machine.{freshMachine, mechanism};
+ghost use Rattle.machine.specs.Machine.{freshMachine, restedAt, after, mechanism};
 ghost use Rattle.machine.specs.Turn.{turnOf, turned};
 use common::limits::SAMPLE_NUMBERS;
 use common::limits::WIDTH;
@@ -81,6 +81,18 @@ fn kept_at(keeps: bool, tempo: u32, remainder: u32) -> u32
     0
 }
 
+// The machine after a tick: its voices, and what the tick's length leaves.
+fn moved_on(voices: [Voice; WIDTH], tempo: u32, keeps: bool, remainder: u32) -> Machine
+    requires { ⌜ (0 < tempo) × (remainder ≤ greatestTempo) ⌝ }
+    ensures { λ r. ⌜ r ≡ restedAt voices keeps tempo remainder ⌝ }
+{
+    Machine {
+        voices: voices,
+        tempo: tempo,
+        remainder: kept_at(keeps, tempo, remainder),
+    }
+}
+
 // A tick's frames into the front of out, whose rest stays; nothing where they do not fit.
 pub fn play_tick(
     layout: Layout,
@@ -111,14 +123,32 @@ pub fn play_tick(
     let voices = machine.voices;
     let commands = tick.commands;
     let moved = mixing::mix(layout, file, extents, voices, commands, frames, out);
-    let next = Machine {
-        voices: moved,
-        tempo: tick.tempo,
-        remainder: kept_at(keeps, tick.tempo, begins),
-    };
     Turn {
         full: false,
         size: size,
-        machine: next,
+        machine: moved_on(moved, tick.tempo, keeps, begins),
     }
+}
+
+// The machine after a tick that nobody hears. No byte of the file is read.
+pub fn pass_tick(
+    layout: Layout,
+    file: &[u8],
+    extents: [Extent; SAMPLE_NUMBERS],
+    machine: Machine,
+    tick: Tick,
+    keeps: bool,
+) -> Machine
+    requires layout { ⌜ LegalLayout layout ⌝ }
+    requires ready { ⌜ Ready (lent layout (now file)) extents (machine .voices) (tick .commands) ⌝ }
+    requires tempo { ⌜ 0 < tick .tempo ⌝ }
+    requires remainder { ⌜ machine .remainder ≤ greatestTempo ⌝ }
+    ensures { λ r. ⌜ r ≡ after keeps (layout .channels) (samplesIn (lent layout (now (file .entry))) extents) machine tick ⌝ }
+{
+    let begins = carried_at(machine.tempo, machine.remainder, tick.tempo);
+    let frames = length_at(tick.tempo, begins);
+    let voices = machine.voices;
+    let commands = tick.commands;
+    let moved = mixing::pass(layout, file, extents, voices, commands, frames);
+    moved_on(moved, tick.tempo, keeps, begins)
 }

@@ -7,3 +7,4 @@ pub mod Voices
 pub mod Piecing
 pub mod Telling
 pub mod Mixing
+pub mod Passing

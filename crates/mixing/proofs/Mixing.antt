@@ -1,6 +1,6 @@
 -- A tick: its voices told their commands, its frames mixed piece by piece, and the tick with no voice that sounds.
 -- Assumes nothing.
-use mathlib.Core.Path.{_≡_, refl, sym, ap, ap₂, subst, _∙_}
+use mathlib.Core.Path.{_≡_, sym, ap, ap₂, subst, _∙_}
 use mathlib.Core.Bool.{true}
 use mathlib.Core.List.{List, [], _++_}
 use Prim.Native.Nat.{ℕ, _+_, _*_, _≤_, _<_}
@@ -21,21 +21,16 @@ use Rattle.reader.specs.Layouts.{LegalLayout}
 use Rattle.reader.specs.File.{lent}
 use Rattle.reader.specs.Samples.{Sample, noExtent}
 use Rattle.voice.specs.declared.Voice.{Voice}
-use Rattle.voice.specs.Voice.{silentOf, arriveAt, started, toldOf}
+use Rattle.voice.specs.Voice.{silentOf, toldOf}
 use Rattle.voice.specs.Modules.{sampleWith, samplesIn}
 use Rattle.voice.specs.Frames.{stepsOf, givesAt, sumOf, scaleOf, frameNumbers, framesFrom, blank, soundingAt, voiceAt, heard, movedAt, mixed, moved}
 use Rattle.voice.specs.LegalFacts.{Ready}
-use Rattle.voice.specs.Kept.{silent-steps, silent-gives}
+use Rattle.voice.specs.Kept.{silent-steps, silent-gives, told-bytes}
 use Rattle.voice.specs.Moved.{sound-at, frames-from}
 use Rattle.voice.specs.Range.{LegalSides, sides-legal}
 use Rattle.mixing.specs.Sides.{cutOf, Voiced, extentAt, voiceIn, Sounding, givenBy, sideAt, laterAt, laterOf, markAt, toldAt, silentAt}
 use Rattle.mixing.proofs.Sums.{both-sides, none-frames}
 use Rattle.mixing.proofs.Voices.{within-by, within-long, within-is, within-rest, within-again}
-
--- a command reads no byte
-told-bytes : (bytes : List ℕ) (x : Extent) (c : Command) (v : Voice) → toldOf (sampleWith [] x) c v ≡ toldOf (sampleWith bytes x) c v
-unfolding toldOf started arriveAt
-told-bytes bytes x c v = refl
 
 module _ (l : Layout) (file : List ℕ) (extents : List Extent) (vs : List Voice) (cs : List Command) (layout : LegalLayout l) (ready : Ready (lent l file) extents vs cs) where
   abbrev c : ℕ
@@ -65,7 +60,7 @@ module _ (l : Layout) (file : List ℕ) (extents : List Extent) (vs : List Voice
     told-is i h =
         within-is (toldAt marks vs cs) c vs told t channels-few i h
         ∙ ap (λ x. toldOf (sampleWith [] x) (getD cs i nothing) (voiceIn vs i)) (f .done i h)
-        ∙ told-bytes (soundingAt samples cs i .bytes) (markAt extents cs i) (getD cs i nothing) (voiceIn vs i)
+        ∙ told-bytes (soundingAt samples cs i .bytes) (markAt extents cs i) (voiceIn vs i) (getD cs i nothing)
 
     pub told-sounding : Sounding file marks told c
     told-sounding = record { few = channels-few; at = voiced }

@@ -1,4 +1,4 @@
-// Mixing voices into frames: the voices are told their commands, and their frames are mixed piece by piece, each side by itself.
+// Mixing voices into frames: the voices are told their commands, and their frames are mixed piece by piece, each side by itself, or passed by.
 ghost use mathlib.Core.Path.{_≡_};
 ghost use mathlib.Core.List.{_++_};
 ghost use Prim.Native.Nat.{ℕ, _*_, _<_, _≤_};
@@ -15,6 +15,7 @@ ghost use Rattle.voice.specs.Frames.{scaleOf, frameNumbers, blank, mixed, moved
 ghost use Rattle.voice.specs.LegalFacts.{Ready};
 ghost use Rattle.mixing.specs.Sides.{markAt, toldAt, silentAt};
 use crate::pieces::mix_pieces;
+use crate::unheard::pass_frames;
 use common::limits::SAMPLE_NUMBERS;
 use common::limits::WIDTH;
 use reader::Extent;
@@ -25,6 +26,7 @@ use voice::Voice;
 
 mod pieces;
 mod side;
+mod unheard;
 
 // With up to so many channels a side is twice the sum, with more the plain sum.
 const DOUBLED_TO: usize = 4;
@@ -120,4 +122,23 @@ pub fn mix(
     }
     let times = scale(channels);
     mix_pieces(channels, file, marks, told, times, frames, out)
+}
+
+// The voices after a number of frames that nobody hears. No byte of the file is read.
+pub fn pass(
+    layout: Layout,
+    file: &[u8],
+    extents: [Extent; SAMPLE_NUMBERS],
+    voices: [Voice; WIDTH],
+    commands: [Command; WIDTH],
+    frames: usize,
+) -> [Voice; WIDTH]
+    requires layout { ⌜ LegalLayout layout ⌝ }
+    requires ready { ⌜ Ready (lent layout (now file)) extents voices commands ⌝ }
+    ensures { λ r. ⌜ r ≡ moved (layout .channels) (samplesIn (lent layout (now (file .entry))) extents) voices commands frames ⌝ }
+{
+    let channels = layout.channels;
+    let marks = named(channels, extents, commands);
+    let told = tell(channels, marks, voices, commands);
+    pass_frames(channels, file, marks, told, frames)
 }

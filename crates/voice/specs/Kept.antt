@@ -1,7 +1,8 @@
--- What a command and a frame's step keep: a voice's sample and volume, all of a silent voice, and legality.
+-- What a command and a frame's step keep: a voice's sample and volume, all of a silent voice, and legality; and that they read no byte.
 -- Assumes nothing.
 use mathlib.Core.Path.{_≡_, refl, sym, ap, subst, _∙_}
 use mathlib.Core.Bool.{true, false, _||_}
+use mathlib.Core.List.{List, []}
 use Prim.Native.Nat.{ℕ, zero, suc, _+_, _-_, _*_, _≤_, _<_}
 use native.Mathlib.Omega.{arith}
 use native.Mathlib.Nat.{zero-add, suc-add, div-lt-iff-lt-mul}
@@ -16,9 +17,11 @@ use Rattle.common.specs.LimitFacts.LegalPeriod.{silent, sounding}
 use Rattle.voice.specs.LegalFacts.{LegalSound, LegalVoice, LoopInside}
 use Rattle.ticks.specs.declared.Command.{Command}
 use Rattle.ticks.specs.Legal.{LegalCommand}
+use Rattle.reader.specs.declared.Extent.{Extent}
 use Rattle.reader.specs.Samples.{Sample}
 use Rattle.voice.specs.declared.Voice.{Voice}
 use Rattle.voice.specs.Voice.{freshVoice, placedAt, stoppedOf, arriveAt, started, silentOf, givesOf, growthOf, carried, stepOf, registered, toldOf, palClock, fractions, rateTenths}
+use Rattle.voice.specs.Modules.{sampleWith}
 use Rattle.voice.specs.Frames.{stepsOf, givesAt}
 
 -- ---- what holds of a voice sounding anywhere and of the voice stopped
@@ -165,3 +168,14 @@ module _ (s : Sample) (looping : LoopInside s) where
   unfolding stepsOf
   sound-steps zero v l = l
   sound-steps (suc k) v l = sound-step (stepsOf s k v) (sound-steps k v l)
+
+-- ---- no byte is read
+module _ (bytes : List ℕ) (x : Extent) (v : Voice) where
+  pub told-bytes : (c : Command) → toldOf (sampleWith [] x) c v ≡ toldOf (sampleWith bytes x) c v
+  unfolding toldOf started arriveAt
+  told-bytes c = refl
+
+  pub steps-bytes : (n : ℕ) → stepsOf (sampleWith [] x) n v ≡ stepsOf (sampleWith bytes x) n v
+  unfolding stepsOf stepOf carried arriveAt
+  steps-bytes zero = refl
+  steps-bytes (suc n) = ap (stepOf (sampleWith bytes x)) (steps-bytes n)

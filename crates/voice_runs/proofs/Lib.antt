@@ -3,3 +3,4 @@ pub mod Weights
 pub mod Moving
 pub mod Bytewise
 pub mod Spreading
+pub mod Passing

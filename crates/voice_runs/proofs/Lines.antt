@@ -1,7 +1,6 @@
 -- A voice's next frames as a line through its sample's bytes. Assumes nothing.
 use mathlib.Core.Path.{_≡_, refl, sym, ap, ap₂, subst, _∙_}
 use mathlib.Core.Bool.{Bool, true, false, cond}
-use mathlib.Core.List.{List, []}
 use Prim.Native.Nat.{ℕ, zero, suc, _+_, _-_, _*_, _/_, _%_, _≤_, _<_}
 use native.Mathlib.Nat.{suc-mul, zero-mul, mul-zero, le-div-iff-mul-le, mul-le-mul-right, lt-of-mul-lt-mul-right}
 use native.Mathlib.Omega.{arith}
@@ -237,15 +236,6 @@ module _ (end : ℕ) (v : Voice) (l : LegalSound end v) (loud : silentOf v ≡ f
 pub land-silent : (s : Sample) (last : ℕ) (v : Voice) → silentOf v ≡ true → v ≡ landOf s last v
 unfolding landOf
 land-silent s last v h = rw h
-
--- steps read no byte
-pub steps-bytes : (bytes : List ℕ) (x : Extent) (n : ℕ) (v r : Voice) → r ≡ stepsOf (sampleWith [] x) n v → r ≡ stepsOf (sampleWith bytes x) n v
-unfolding stepsOf stepOf carried arriveAt
-steps-bytes bytes x n v r e = e ∙ go n
-  where
-    go : (k : ℕ) → stepsOf (sampleWith [] x) k v ≡ stepsOf (sampleWith bytes x) k v
-    go zero = refl
-    go (suc k) = ap (stepOf (sampleWith bytes x)) (go k)
 
 pub land-rate : (i f g : ℕ) (v w : Voice) → w ≡ placedAt i f v → g ≡ growthOf (v .period) → g ≡ growthOf (w .period)
 land-rate i f g v w e q = q ∙ ap (λ (x : Voice). growthOf (x .period)) (sym e)

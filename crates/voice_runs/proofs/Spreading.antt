@@ -18,10 +18,10 @@ use Rattle.voice.specs.Voice.{signedOf}
 use Rattle.voice.specs.Modules.{sampleWith}
 use Rattle.voice.specs.Frames.{stepsOf}
 use Rattle.voice.specs.LegalFacts.{LegalSound, LoopInside}
-use Rattle.voice.specs.Kept.{steps-volume}
+use Rattle.voice.specs.Kept.{steps-volume, steps-bytes}
 use Rattle.voice_runs.specs.declared.line.Pace.{Pace}
 use Rattle.voice_runs.specs.Runs.{soundAt, weightOf, Follows, productOf, weighedAt, piece, spare, Paced, oneAt, Spread}
-use Rattle.voice_runs.proofs.Lines.{pace-inverse, steps-bytes}
+use Rattle.voice_runs.proofs.Lines.{pace-inverse}
 use Rattle.voice_runs.proofs.Weights.{times-times, weight-times}
 use Rattle.voice_runs.proofs.Moving.{tailOf, Moving, moving-none, moving-more, moving-gives, moving-end}
 
@@ -57,7 +57,7 @@ module _ (x : Extent) (v : Voice) (quiet : Bool) (growth count : ℕ) (m : Follo
       record {
         some = m .some;
         most = most;
-        moved = steps-bytes a x count v v′ d;
+        moved = d ∙ steps-bytes a x v count;
         numbers =
             λ times e.
             written-as _ _ at count count old new w (le-refl count)

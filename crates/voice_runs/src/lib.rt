@@ -1,5 +1,6 @@
-// Voices in runs: up to its sample's end a voice is a line through bytes, and its numbers are written byte by byte into cells.
+// Voices in runs: up to its sample's end a voice is a line through bytes, and its numbers are written byte by byte into cells, or passed by.
 ghost use mathlib.Core.Path.{_≡_};
+ghost use mathlib.Core.List.{[]};
 ghost use Prim.Native.Nat.{_+_, _*_, _<_, _≤_};
 ghost use lib.ListN.{length};
 ghost use Rattle.common.specs.LimitFacts.{LegalPeriod};
@@ -108,6 +109,24 @@ pub fn spread(
         let run = spread_run(bytes, v, extent, pace, weight, frames - k, cells, k);
         v = run.voice;
         k += run.frames;
+    }
+    v
+}
+
+// The voice after the next frames, which nobody hears. No byte of the sample is read.
+pub fn pass(voice: Voice, extent: Extent, pace: Pace, frames: usize) -> Voice
+    requires looping { ⌜ LoopInside (sampleWith [] extent) ⌝ }
+    requires legal { ⌜ LegalSound (extent .end) voice ⌝ }
+    requires pace { ⌜ Paced (voice .period) pace ⌝ }
+    ensures { λ r. ⌜ r ≡ stepsOf (sampleWith [] extent) frames voice ⌝ }
+{
+    let mut v = voice;
+    let mut k = 0;
+    while k < frames {
+        let line = follow(v, extent, pace, frames - k);
+        let n = line.count;
+        v = after(v, extent, pace.growth, line, n);
+        k += n;
     }
     v
 }
