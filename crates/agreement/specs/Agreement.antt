@@ -14,7 +14,7 @@ use Rattle.common.specs.Answers.{accepted, Outcome, outcome, refusing}
 use Rattle.common.specs.ByteLaws.{Bytes}
 use Rattle.common.specs.declared.Answer.{Answer}
 use Rattle.ticks.specs.declared.Tick.{Tick}
-use Rattle.ticks.specs.Play.{over, Mechanism, rendered, fit, playOut}
+use Rattle.ticks.specs.Play.{over, Mechanism, afterAll, rendered, fit, playOut}
 use Rattle.reader.specs.File.{Module, moduleOf, channelCount}
 use Rattle.reader.specs.Layouts.{module-legal}
 use Rattle.reader.specs.Judge.{verdict}
@@ -30,7 +30,7 @@ use Rattle.player.specs.Kept.{fresh-state, fresh-soundings}
 use Rattle.player.specs.Keeps.{play-accepted}
 use Rattle.translator.specs.Translate.{mostTicks, freshTicks, streamOf}
 use Rattle.translator.specs.Streams.{stream-keeps, decode-stream, translated}
-use Rattle.board.specs.Board.{playedTicks, playedBy, playStreamOf}
+use Rattle.board.specs.Board.{ledTo, playedTicks, playedBy, playStreamFromOf, playStreamOf}
 use Rattle.agreement.specs.Demand.{Calls, Sounds, Kind, sixteenBits, Agreement}
 use Rattle.agreement.specs.Plays.{plays-sounds}
 use Rattle.agreement.specs.declared.Both.{Both}
@@ -111,12 +111,12 @@ module _ (bytes : List ℕ) (n : ℕ) (e : verdict (moduleOf bytes) .number ≡ 
   played-is out = rw (player-accepts out)
 
   -- the board answers and leaves what the player does where its stream keeps a remainder
-  streamed-as-played : (out : List ℤ) → playedTicks true (channelCount m) (samplesOf m) (ticksOf m n freshState) out ≡ outcome (playedFrom m freshState n out .reply .answer) (playedFrom m freshState n out .out)
-  unfolding playedTicks playedFrom freshState freshSong freshMachine
+  streamed-as-played : (out : List ℤ) → playedTicks true (channelCount m) (samplesOf m) 0 (ticksOf m n freshState) out ≡ outcome (playedFrom m freshState n out .reply .answer) (playedFrom m freshState n out .out)
+  unfolding playedTicks ledTo afterAll playedFrom freshState freshSong freshMachine
   streamed-as-played out = refl
 
   board-as-player : (out : List ℤ) → playStreamOf bytes (streamOf m n) out ≡ sixteenBits bytes n .plays out
-  unfolding playStreamOf refusing playedBy
+  unfolding playStreamFromOf refusing playedBy
   board-as-player out =
       rw (eq-eqb (verdict m .number) 0 e, stream-keeps m n, decode-stream m (record { layout = module-legal bytes; judged = e; bytes = b }) n few, ← fresh-ticks m n, player-accepts out) (streamed-as-played out)
 

@@ -7,7 +7,7 @@ use mathlib.Core.List.{List, [], _∷_, _++_}
 use native.Mathlib.Omega.{arith}
 use lib.Dec.{leb}
 use lib.IntN.{ℤ}
-use lib.ListN.{length, take}
+use lib.ListN.{length, take, drop}
 use Rattle.common.specs.Answers.{accepted, outcome, refusing}
 use Rattle.common.specs.Limits.{width}
 use Rattle.ticks.specs.declared.Tick.{Tick}
@@ -28,7 +28,7 @@ use Rattle.machine.specs.Kept.{frames-same, after-same}
 use Rattle.records.specs.Format.{keeps, atFirst, Decoded, refusal, ticks, decode}
 use Rattle.records.specs.Registers.{first-long}
 use Rattle.records.specs.Decoded.{stream-of}
-use Rattle.board.specs.Board.{playedTicks, playedBy, boardOf, playStreamOf}
+use Rattle.board.specs.Board.{ledTo, playedTicks, playedBy, boardOf, playStreamFromOf}
 
 -- ---- two machines that play legal ticks alike, of any kind of frames
 pub record Alike {A W : Type 0} (last : ℕ) (k k′ : Mechanism A W Tick) : Type 0 where
@@ -62,6 +62,17 @@ module _ {A W : Type 0} {last : ℕ} {k k′ : Mechanism A W Tick} (alike : Alik
   after-alike w soundings long (t ∷ ts) (suc n) (more l ls) =
       ap (λ (x : W). afterAll k x (take n ts)) (alike .after w soundings long t l) ∙ after-alike (k′ .after w t) (soundingOf (t .commands)) (next-long soundings long t l) ts n ls
 
+-- ---- the ticks from one on are legal after the commands before them
+pub record Onward (last : ℕ) (ts : List Tick) : Type 0 where
+  pub soundings : List ℕ
+  pub long : length soundings ≡ width
+  pub legal : LegalTicks last soundings ts
+
+pub legal-onward : (last n : ℕ) (soundings : List ℕ) → length soundings ≡ width → (ts : List Tick) → LegalTicks last soundings ts → Onward last (drop n ts)
+legal-onward last zero soundings long ts l = record { soundings = soundings; long = long; legal = l }
+legal-onward last (suc n) soundings long [] l = record { soundings = soundings; long = long; legal = l }
+legal-onward last (suc n) soundings long (t ∷ ts) (more l ls) = legal-onward last n (soundingOf (t .commands)) (length-sounding (t .commands) ∙ (l .long ∙ long)) ts ls
+
 -- ---- samples that are equal by their numbers, up to the last
 module _ (keeping : Bool) (last c : ℕ) (room : c ≤ width) (samples others : ℕ → Sample) (same : (k : ℕ) → k ≤ last → samples k ≡ others k) where
   -- the commands of a legal tick name samples to the last
@@ -78,33 +89,44 @@ module _ (keeping : Bool) (last c : ℕ) (room : c ≤ width) (samples others : 
   abbrev k′ : Mechanism ℤ Machine Tick
   k′ = mechanism keeping c others
 
-  played-same : (soundings : List ℕ) → length soundings ≡ width → (ts : List Tick) (out : List ℤ) → LegalTicks last soundings ts → playedTicks keeping c samples ts out ≡ playedTicks keeping c others ts out
+  pub led-same : (soundings : List ℕ) → length soundings ≡ width → (first : ℕ) (ts : List Tick) → LegalTicks last soundings ts → ledTo keeping c samples first ts ≡ ledTo keeping c others first ts
+  unfolding ledTo
+  led-same soundings long first ts l = after-alike samples-alike freshMachine soundings long ts first l
+
+  played-same : (soundings : List ℕ) → length soundings ≡ width → (first : ℕ) (ts : List Tick) (out : List ℤ) → LegalTicks last soundings ts → playedTicks keeping c samples first ts out ≡ playedTicks keeping c others first ts out
   unfolding playedTicks playOut
-  played-same soundings long ts out l =
-      ap₂ (λ (n : ℕ) (xs : List ℤ). outcome (accepted n) (over xs out)) f
-      (rendered-same samples-alike freshMachine soundings long ts (fit k (length out) freshMachine ts) l ∙ ap (λ (n : ℕ). rendered k′ freshMachine (take n ts)) f)
+  played-same soundings long first ts out l =
+      rw (led-same soundings long first ts l)
+      (ap₂ (λ (n : ℕ) (xs : List ℤ). outcome (accepted n) (over xs out)) f
+      (rendered-same samples-alike w (d .soundings) (d .long) (drop first ts) (fit k (length out) w (drop first ts)) (d .legal) ∙ ap (λ (n : ℕ). rendered k′ w (take n (drop first ts))) f))
     where
-      f : fit k (length out) freshMachine ts ≡ fit k′ (length out) freshMachine ts
-      f = fit-same samples-alike (length out) freshMachine soundings long ts l
+      w : Machine
+      w = ledTo keeping c others first ts
+
+      d : Onward last (drop first ts)
+      d = legal-onward last first soundings long ts l
+
+      f : fit k (length out) w (drop first ts) ≡ fit k′ (length out) w (drop first ts)
+      f = fit-same samples-alike (length out) w (d .soundings) (d .long) (drop first ts) (d .legal)
 
 module _ (last c : ℕ) (room : c ≤ width) (samples others : ℕ → Sample) (same : (k : ℕ) → k ≤ last → samples k ≡ others k) where
-  board-same : (stream : List ℕ) (out : List ℤ) → boardOf last c samples stream out ≡ boardOf last c others stream out
+  board-same : (first : ℕ) (stream : List ℕ) (out : List ℤ) → boardOf last c samples first stream out ≡ boardOf last c others first stream out
   unfolding playedBy
-  board-same stream out = go (decode last c stream) refl
+  board-same first stream out = go (decode last c stream) refl
     where
-      go : (d : Decoded) → decode last c stream ≡ d → playedBy (keeps stream) c samples d out ≡ playedBy (keeps stream) c others d out
+      go : (d : Decoded) → decode last c stream ≡ d → playedBy (keeps stream) c samples first d out ≡ playedBy (keeps stream) c others first d out
       go (refusal number place) e = refl
-      go (ticks ts) e = played-same (keeps stream) last c room samples others same (soundingOf atFirst) (length-sounding atFirst ∙ first-long) ts out (stream-of last c stream ts e .legal)
+      go (ticks ts) e = played-same (keeps stream) last c room samples others same (soundingOf atFirst) (length-sounding atFirst ∙ first-long) first ts out (stream-of last c stream ts e .legal)
 
--- two accepted files with equal samples give equal frames, and equal answers, for every stream and output
+-- two accepted files with equal samples give equal frames, and equal answers, for every stream, tick to begin with and output
 pub same-samples : (bytes bytes′ : List ℕ) → verdict (moduleOf bytes) .number ≡ 0 → verdict (moduleOf bytes′) .number ≡ 0
     → ((k : ℕ) → k ≤ sampleCount (moduleOf bytes) → sampleOf (moduleOf bytes) k ≡ sampleOf (moduleOf bytes′) k)
-    → (stream : List ℕ) (out : List ℤ) → playStreamOf bytes stream out ≡ playStreamOf bytes′ stream out
-unfolding playStreamOf refusing
-same-samples bytes bytes′ e e′ same stream out =
+    → (stream : List ℕ) (first : ℕ) (out : List ℤ) → playStreamFromOf bytes stream first out ≡ playStreamFromOf bytes′ stream first out
+unfolding playStreamFromOf refusing
+same-samples bytes bytes′ e e′ same stream first out =
     let m = moduleOf bytes in
     let m′ = moduleOf bytes′ in
     rw (e, e′)
     (board-same (sampleCount m) (channelCount m) (module-legal bytes .channels) (samplesOf m) (samplesOf m′)
     (λ k h. sample-is m (module-legal bytes .samples) (extentsOf m) refl k h ∙ (same k h ∙ sym (sample-is m′ (module-legal bytes′ .samples) (extentsOf m′) refl k h)))
-    stream out)
+    first stream out)

@@ -22,7 +22,7 @@ use Rattle.machine.specs.Machine.{freshMachine, begins, tickLength, mechanism}
 use Rattle.machine.specs.Drift.{sized, first-frames, first-after, old-rest}
 use Rattle.records.specs.Format.{versionPlace, firstVersion, keeps}
 use Rattle.records.specs.Examples.{emptyStream, noteStream, first-streams}
-use Rattle.board.specs.Board.{playedTicks, playedBy, playStreamOf}
+use Rattle.board.specs.Board.{ledTo, playedTicks, playedBy, playStreamFromOf, playStreamOf}
 
 -- ---- the tempo before the first tick does not matter
 -- stopped voices, no remainder, and this tempo before
@@ -42,8 +42,8 @@ module _ (keeping : Bool) (c : ℕ) (samples : ℕ → Sample) (tempo other : �
 
 -- ticks are played as from any tempo
 pub first-tempo : (keeping : Bool) (c : ℕ) (samples : ℕ → Sample) (tempo : ℕ) (ts : List Tick) (out : List ℤ)
-    → playedTicks keeping c samples ts out ≡ outcome (accepted (fit (mechanism keeping c samples) (length out) (before tempo) ts)) (playOut (mechanism keeping c samples) (before tempo) ts out)
-unfolding playedTicks playOut freshMachine
+    → playedTicks keeping c samples 0 ts out ≡ outcome (accepted (fit (mechanism keeping c samples) (length out) (before tempo) ts)) (playOut (mechanism keeping c samples) (before tempo) ts out)
+unfolding playedTicks ledTo afterAll playOut freshMachine
 first-tempo keeping c samples tempo ts out =
     rw (fit-first keeping c samples tempo 125 (length out) ts, rendered-first keeping c samples tempo 125 (take (fit (mechanism keeping c samples) (length out) (before 125) ts) ts))
 
@@ -61,7 +61,7 @@ old-throughout c samples s e ts = rw (eq-eqb (byteAt s versionPlace) firstVersio
 -- the paper's two whole streams are accepted with any module, and their tick is played where its 960 frames fit
 pub first-played : (bytes : List ℕ) (out : List ℤ) → verdict (moduleOf bytes) .number ≡ 0 → frameNumbers * (tickFrames / 125) ≤ length out
     → (playStreamOf bytes (emptyStream 0x01) out .reply ≡ accepted 1) × (playStreamOf bytes (noteStream 0x01) out .reply ≡ accepted 1)
-unfolding playStreamOf refusing playedBy playedTicks fit tickLength begins carriedAt lengthAt freshMachine
+unfolding playStreamFromOf refusing playedBy playedTicks ledTo afterAll fit tickLength begins carriedAt lengthAt freshMachine
 first-played bytes out e h =
     let fits = le-leb (frameNumbers * (tickFrames / 125)) (length out) h in
     (rw (eq-eqb (verdict (moduleOf bytes) .number) 0 e, first-streams .0, sized, fits), rw (eq-eqb (verdict (moduleOf bytes) .number) 0 e, first-streams .1, sized, fits))

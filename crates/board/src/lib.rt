@@ -6,24 +6,28 @@ ghost use Rattle.reader.specs.Layouts.{LegalLayout};
 ghost use Rattle.reader.specs.Judge.{verdict};
 ghost use Rattle.voice.specs.Voice.{samplesOf};
 ghost use Rattle.decoder.specs.Remaining.{Good};
-ghost use Rattle.board.specs.Board.{boardOf, playStreamOf};
+ghost use Rattle.board.specs.Board.{boardOf, playStreamFromOf, playStreamOf};
+use crate::lead::lead;
 use common::Answer;
 use reader::Layout;
 
-// Plays a good stream with the samples of an accepted module. The registers are the commands of the tick before.
-fn play_records(layout: Layout, file: &[u8], stream: &[u8], out: &mut [i16]) -> Answer
+pub mod lead;
+
+// Plays a good stream from a tick on with the samples of an accepted module. The registers are the commands of the tick before.
+fn play_records(layout: Layout, file: &[u8], stream: &[u8], first: usize, out: &mut [i16]) -> Answer
     requires layout { ⌜ LegalLayout layout ⌝ }
     requires judged { ⌜ verdict (lent layout (now file)) .number ≡ 0 ⌝ }
     requires good { ⌜ Good (layout .samples) (layout .channels) (now stream) ⌝ }
-    ensures { λ r. ⌜ outcome r (now (out .exit)) ≡ boardOf (layout .samples) (layout .channels) (samplesOf (lent layout (now (file .entry)))) (now (stream .entry)) (now (out .entry)) ⌝ }
+    ensures { λ r. ⌜ outcome r (now (out .exit)) ≡ boardOf (layout .samples) (layout .channels) (samplesOf (lent layout (now (file .entry)))) first (now (stream .entry)) (now (out .entry)) ⌝ }
 {
     let extents = reader::samples::extents(layout, file);
     let last = layout.samples as u32;
-    let count = decoder::count_of(stream);
     let keeping = decoder::keeps(stream);
-    let mut machine = machine::fresh();
-    let mut registers = records::at_first();
-    let mut from = records::RECORDS_PLACE;
+    let begin = lead(layout, file, extents, stream, keeping, first);
+    let count = begin.left;
+    let mut machine = begin.machine;
+    let mut registers = begin.registers;
+    let mut from = begin.place;
     let mut at = 0;
     let mut i = 0;
     while i < count {
@@ -51,9 +55,9 @@ fn play_records(layout: Layout, file: &[u8], stream: &[u8], out: &mut [i16]) -> 
     common::accept(i)
 }
 
-// Plays the largest number of a stream's whole ticks whose frames fit into out; the rest of out stays.
-pub fn play_stream(stream: &[u8], file: &[u8], out: &mut [i16]) -> Answer
-    ensures { λ r. ⌜ outcome r (now (out .exit)) ≡ playStreamOf (now (file .entry)) (now (stream .entry)) (now (out .entry)) ⌝ }
+// Plays a stream's ticks from one on, counted from 0: the largest number of whole ticks whose frames fit into out; the rest of out stays.
+pub fn play_stream_from(stream: &[u8], file: &[u8], first: usize, out: &mut [i16]) -> Answer
+    ensures { λ r. ⌜ outcome r (now (out .exit)) ≡ playStreamFromOf (now (file .entry)) (now (stream .entry)) first (now (out .entry)) ⌝ }
 {
     let layout = reader::offsets::four_channels();
     let judged = reader::judge_by(layout, file);
@@ -64,5 +68,12 @@ pub fn play_stream(stream: &[u8], file: &[u8], out: &mut [i16]) -> Answer
     if checked.number != 0 {
         return common::refuse(checked.number, checked.place);
     }
-    play_records(layout, file, stream, out)
+    play_records(layout, file, stream, first, out)
+}
+
+// The same from the stream's beginning.
+pub fn play_stream(stream: &[u8], file: &[u8], out: &mut [i16]) -> Answer
+    ensures { λ r. ⌜ outcome r (now (out .exit)) ≡ playStreamOf (now (file .entry)) (now (stream .entry)) (now (out .entry)) ⌝ }
+{
+    play_stream_from(stream, file, 0, out)
 }

@@ -120,3 +120,11 @@ module _ (last c : ℕ) (s : List ℕ) (n i at : ℕ) (registers : List Command)
       let z : n - i ≡ 0 = omega arith in
       let q = passed (eqb at (length s)) (ticks []) (refusal 23 at) (ticks ts) (not-ticks 23 at ts) (rw z at (w .reads)) .1 in
       cc
+
+-- what is left is known by where it begins
+abbrev ticksIn : Decoded → List Tick
+ticksIn (refusal number place) = []
+ticksIn (ticks ts) = ts
+
+pub left-same : (last c : ℕ) (s : List ℕ) (n at : ℕ) (registers : List Command) (ts ts′ : List Tick) → Left last c s n at registers ts → Left last c s n at registers ts′ → ts ≡ ts′
+left-same last c s n at registers ts ts′ w w′ = ap ticksIn (sym (w .reads) ∙ w′ .reads)

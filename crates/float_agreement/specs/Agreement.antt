@@ -10,7 +10,7 @@ use borrow.Author.Tests.{eq-eqb}
 use Rattle.common.specs.Answers.{accepted, Outcome, outcome, refusing}
 use Rattle.common.specs.ByteLaws.{Bytes}
 use Rattle.common.specs.declared.Answer.{Answer}
-use Rattle.ticks.specs.Play.{fit, afterFit, playOut}
+use Rattle.ticks.specs.Play.{afterAll, fit, afterFit, playOut}
 use Rattle.reader.specs.File.{Module, moduleOf, channelCount}
 use Rattle.reader.specs.Layouts.{module-legal}
 use Rattle.reader.specs.Judge.{verdict}
@@ -29,7 +29,8 @@ use Rattle.float_player.specs.Keeps.{floats-accepted, floats-numbers, floats-ou
 use Rattle.translator.specs.Translate.{mostTicks, streamOf}
 use Rattle.translator.specs.Streams.{stream-keeps, decode-stream, translated}
 use Rattle.float_board.specs.declared.FloatAnswer.{FloatAnswer}
-use Rattle.float_board.specs.Board.{floatAnswer, playedFloats, floatsBoardBy, playStreamFloatsOf}
+use Rattle.board.specs.Board.{ledTo}
+use Rattle.float_board.specs.Board.{floatAnswer, playedFloats, floatsBoardBy, playStreamFloatsFromOf, playStreamFloatsOf}
 use Rattle.agreement.specs.Demand.{Agreement}
 use Rattle.agreement.specs.Agreement.{fresh-ticks, OnePlay, agreement}
 use Rattle.float_agreement.specs.declared.FloatBoth.{FloatBoth}
@@ -51,12 +52,12 @@ module _ (bytes : List ℕ) (n sides : ℕ) (e : verdict (moduleOf bytes) .numbe
   player-accepts pair out = floats-accepted bytes freshState n sides pair out e (fresh-state m (module-legal bytes) e) a
 
   -- the board answers and leaves what the player does where its stream keeps a remainder
-  streamed-as-played : (pair : Pair) (out : List Float) → playedFloats true (channelCount m) (samplesOf m) (ticksOf m n freshState) sides pair out ≡ heard (floatsFrom m freshState n sides pair out)
-  unfolding playedFloats floatsFrom freshState freshSong freshMachine
+  streamed-as-played : (pair : Pair) (out : List Float) → playedFloats true (channelCount m) (samplesOf m) 0 (ticksOf m n freshState) sides pair out ≡ heard (floatsFrom m freshState n sides pair out)
+  unfolding playedFloats ledTo afterAll floatsFrom freshState freshSong freshMachine
   streamed-as-played pair out = refl
 
   board-as-player : (pair : Pair) (out : List Float) → playStreamFloatsOf bytes (streamOf m n) sides pair out ≡ heard (playFloatsOf bytes freshState n sides pair out)
-  unfolding playStreamFloatsOf refusing floatsBoardBy
+  unfolding playStreamFloatsFromOf refusing floatsBoardBy
   board-as-player pair out =
       rw (eq-eqb (verdict m .number) 0 e, a, stream-keeps m n, decode-stream m (record { layout = module-legal bytes; judged = e; bytes = b }) n few, ← fresh-ticks m n, player-accepts pair out) (streamed-as-played pair out)
 

@@ -5,7 +5,7 @@ use mathlib.Core.Path.{_≡_, refl, sym, ap, _∙_}
 use mathlib.Core.Bool.{Bool}
 use mathlib.Core.List.{List}
 use lib.IntN.{ℤ}
-use lib.ListN.{length}
+use lib.ListN.{length, drop}
 use lib.Ieee.{Float}
 use Rattle.common.specs.Answers.{refusing}
 use Rattle.common.specs.Limits.{width}
@@ -21,15 +21,15 @@ use Rattle.reader.specs.Extents.{sampleOf}
 use Rattle.voice.specs.Voice.{samplesOf}
 use Rattle.voice.specs.Modules.{sample-is}
 use Rattle.machine.specs.declared.Machine.{Machine}
-use Rattle.machine.specs.Machine.{freshMachine, mechanism}
+use Rattle.machine.specs.Machine.{mechanism}
 use Rattle.floats.specs.declared.Pair.{Pair}
 use Rattle.floats.specs.Frames.{floatsOf}
-use Rattle.float_machine.specs.Machine.{floatMachine, floatFrames, floatAfter, floatsBy}
+use Rattle.float_machine.specs.Machine.{floatFrames, floatAfter, floatsBy}
 use Rattle.records.specs.Format.{keeps, atFirst, Decoded, refusal, ticks, decode}
 use Rattle.records.specs.Registers.{first-long}
 use Rattle.records.specs.Decoded.{stream-of}
-use Rattle.board.specs.Alone.{Alike, fit-same, rendered-same, after-alike, samples-alike}
-use Rattle.float_board.specs.Board.{floatsOn, playedFloats, floatsBoardBy, floatBoardOf, playStreamFloatsOf}
+use Rattle.board.specs.Alone.{Alike, fit-same, rendered-same, after-alike, legal-onward, samples-alike, led-same}
+use Rattle.float_board.specs.Board.{floatsOn, floatsLed, playedFloats, floatsBoardBy, floatBoardOf, playStreamFloatsFromOf}
 
 -- two machines that play 16-bit frames alike play floats alike
 floats-alike : (sides last : ℕ) (k k′ : Mechanism ℤ Machine Tick) → Alike last k k′ → Alike last (floatsBy sides k) (floatsBy sides k′)
@@ -41,28 +41,34 @@ floats-alike sides last k k′ a =
     }
 
 module _ (last c : ℕ) (room : c ≤ width) (samples others : ℕ → Sample) (same : (k : ℕ) → k ≤ last → samples k ≡ others k) (sides : ℕ) (pair : Pair) where
-  played-same : (keeping : Bool) (soundings : List ℕ) → length soundings ≡ width → (ts : List Tick) (out : List Float) → LegalTicks last soundings ts → playedFloats keeping c samples ts sides pair out ≡ playedFloats keeping c others ts sides pair out
+  played-same : (keeping : Bool) (soundings : List ℕ) → length soundings ≡ width → (first : ℕ) (ts : List Tick) (out : List Float) → LegalTicks last soundings ts → playedFloats keeping c samples first ts sides pair out ≡ playedFloats keeping c others first ts sides pair out
   unfolding playedFloats playOut
-  played-same keeping soundings long ts out l =
+  played-same keeping soundings long first ts out l =
       let a = floats-alike sides last (mechanism keeping c samples) (mechanism keeping c others) (samples-alike keeping last c room samples others same) in
-      let w = floatMachine freshMachine pair in
-      let n = fit (floatsOn keeping c others sides) (length out) w ts in
-      rw (fit-same a (length out) w soundings long ts l, rendered-same a w soundings long ts n l, after-alike a w soundings long ts n l)
+      let w = floatsLed keeping c others first ts pair in
+      let n = fit (floatsOn keeping c others sides) (length out) w (drop first ts) in
+      let d = legal-onward last first soundings long ts l in
+      rw (
+        led-same keeping last c room samples others same soundings long first ts l,
+        fit-same a (length out) w (d .soundings) (d .long) (drop first ts) (d .legal),
+        rendered-same a w (d .soundings) (d .long) (drop first ts) n (d .legal),
+        after-alike a w (d .soundings) (d .long) (drop first ts) n (d .legal),
+      )
 
-  board-same : (stream : List ℕ) (out : List Float) → floatBoardOf last c samples stream sides pair out ≡ floatBoardOf last c others stream sides pair out
+  board-same : (first : ℕ) (stream : List ℕ) (out : List Float) → floatBoardOf last c samples first stream sides pair out ≡ floatBoardOf last c others first stream sides pair out
   unfolding floatsBoardBy
-  board-same stream out = go (decode last c stream) refl
+  board-same first stream out = go (decode last c stream) refl
     where
-      go : (d : Decoded) → decode last c stream ≡ d → floatsBoardBy (keeps stream) c samples d sides pair out ≡ floatsBoardBy (keeps stream) c others d sides pair out
+      go : (d : Decoded) → decode last c stream ≡ d → floatsBoardBy (keeps stream) c samples first d sides pair out ≡ floatsBoardBy (keeps stream) c others first d sides pair out
       go (refusal number place) e = refl
-      go (ticks ts) e = played-same (keeps stream) (soundingOf atFirst) (length-sounding atFirst ∙ first-long) ts out (stream-of last c stream ts e .legal)
+      go (ticks ts) e = played-same (keeps stream) (soundingOf atFirst) (length-sounding atFirst ∙ first-long) first ts out (stream-of last c stream ts e .legal)
 
--- two accepted files with equal samples give equal numbers, and equal answers and records, for every stream, sides and output
+-- two accepted files with equal samples give equal numbers, and equal answers and records, for every stream, tick to begin with, sides and output
 pub same-floats : (bytes bytes′ : List ℕ) → verdict (moduleOf bytes) .number ≡ 0 → verdict (moduleOf bytes′) .number ≡ 0
     → ((k : ℕ) → k ≤ sampleCount (moduleOf bytes) → sampleOf (moduleOf bytes) k ≡ sampleOf (moduleOf bytes′) k)
-    → (stream : List ℕ) (sides : ℕ) (pair : Pair) (out : List Float) → playStreamFloatsOf bytes stream sides pair out ≡ playStreamFloatsOf bytes′ stream sides pair out
-unfolding playStreamFloatsOf refusing
-same-floats bytes bytes′ e e′ same stream sides pair out =
+    → (stream : List ℕ) (first sides : ℕ) (pair : Pair) (out : List Float) → playStreamFloatsFromOf bytes stream first sides pair out ≡ playStreamFloatsFromOf bytes′ stream first sides pair out
+unfolding playStreamFloatsFromOf refusing
+same-floats bytes bytes′ e e′ same stream first sides pair out =
     let m = moduleOf bytes in
     let m′ = moduleOf bytes′ in
     rw (
@@ -70,5 +76,5 @@ same-floats bytes bytes′ e e′ same stream sides pair out =
       e′,
       board-same (sampleCount m) (channelCount m) (module-legal bytes .channels) (samplesOf m) (samplesOf m′)
           (λ k h. sample-is m (module-legal bytes .samples) (extentsOf m) refl k h ∙ (same k h ∙ sym (sample-is m′ (module-legal bytes′ .samples) (extentsOf m′) refl k h)))
-          sides pair stream out,
+          sides pair first stream out,
     )

@@ -7,7 +7,8 @@ ghost use Rattle.reader.specs.Layouts.{LegalLayout};
 ghost use Rattle.reader.specs.Judge.{verdict};
 ghost use Rattle.voice.specs.Voice.{samplesOf};
 ghost use Rattle.decoder.specs.Remaining.{Good};
-ghost use Rattle.float_board.specs.Board.{floatAnswer, floatBoardOf, playStreamFloatsOf};
+ghost use Rattle.float_board.specs.Board.{floatAnswer, floatBoardOf, playStreamFloatsFromOf, playStreamFloatsOf};
+use board::lead::lead;
 use common::Answer;
 use float_machine::FloatMachine;
 use float_machine::MIXED;
@@ -39,11 +40,12 @@ fn after_ticks(machine: FloatMachine, count: usize) -> FloatAnswer
     }
 }
 
-// Plays a good stream with the samples of an accepted module. The registers are the commands of the tick before.
+// Plays a good stream from a tick on with the samples of an accepted module. The registers are the commands of the tick before.
 fn play_records(
     layout: Layout,
     file: &[u8],
     stream: &[u8],
+    first: usize,
     sides: u32,
     old: Pair,
     out: &mut [f32],
@@ -52,21 +54,22 @@ fn play_records(
     requires judged { ⌜ verdict (lent layout (now file)) .number ≡ 0 ⌝ }
     requires good { ⌜ Good (layout .samples) (layout .channels) (now stream) ⌝ }
     requires asked { ⌜ (1 ≤ sides) × (sides ≤ 2) ⌝ }
-    ensures { λ r. ⌜ outcome r (now (out .exit)) ≡ floatBoardOf (layout .samples) (layout .channels) (samplesOf (lent layout (now (file .entry)))) (now (stream .entry)) sides old (now (out .entry)) ⌝ }
+    ensures { λ r. ⌜ outcome r (now (out .exit)) ≡ floatBoardOf (layout .samples) (layout .channels) (samplesOf (lent layout (now (file .entry)))) first (now (stream .entry)) sides old (now (out .entry)) ⌝ }
 {
     let mut mixed = [0i16; MIXED];
-    let shared = machine::fresh();
+    let extents = reader::samples::extents(layout, file);
+    let keeping = decoder::keeps(stream);
+    let last = layout.samples as u32;
+    let begin = lead(layout, file, extents, stream, keeping, first);
+    let count = begin.left;
+    let shared = begin.machine;
     let mut machine = FloatMachine {
         machine: shared,
         last: old,
         next: 0,
     };
-    let extents = reader::samples::extents(layout, file);
-    let keeping = decoder::keeps(stream);
-    let count = decoder::count_of(stream);
-    let last = layout.samples as u32;
-    let mut from = records::RECORDS_PLACE;
-    let mut registers = records::at_first();
+    let mut from = begin.place;
+    let mut registers = begin.registers;
     let mut at = 0;
     let mut i = 0;
     while i < count {
@@ -96,16 +99,17 @@ fn play_records(
     after_ticks(machine, i)
 }
 
-// Plays the largest number of a stream's whole ticks whose numbers fit into out; the rest of out stays. `pair` is the record of the last left
-// and right, which the call hands back; a refusal and a call that plays no frame hand it back as it was.
-pub fn play_stream_floats(
+// Plays a stream's ticks from one on, counted from 0: the largest number of whole ticks whose numbers fit into out; the rest of out stays. `pair` is
+// the record of the last left and right, which the call hands back; a refusal and a call that plays no frame hand it back as it was.
+pub fn play_stream_floats_from(
     stream: &[u8],
     file: &[u8],
+    first: usize,
     sides: u32,
     pair: Pair,
     out: &mut [f32],
 ) -> FloatAnswer
-    ensures { λ r. ⌜ outcome r (now (out .exit)) ≡ playStreamFloatsOf (now (file .entry)) (now (stream .entry)) sides pair (now (out .entry)) ⌝ }
+    ensures { λ r. ⌜ outcome r (now (out .exit)) ≡ playStreamFloatsFromOf (now (file .entry)) (now (stream .entry)) first sides pair (now (out .entry)) ⌝ }
 {
     let layout = reader::offsets::four_channels();
     let judged = reader::judge_by(layout, file);
@@ -119,5 +123,18 @@ pub fn play_stream_floats(
     if checked.number != 0 {
         return refuse(checked.number, checked.place, pair);
     }
-    play_records(layout, file, stream, sides, pair, out)
+    play_records(layout, file, stream, first, sides, pair, out)
+}
+
+// The same from the stream's beginning.
+pub fn play_stream_floats(
+    stream: &[u8],
+    file: &[u8],
+    sides: u32,
+    pair: Pair,
+    out: &mut [f32],
+) -> FloatAnswer
+    ensures { λ r. ⌜ outcome r (now (out .exit)) ≡ playStreamFloatsOf (now (file .entry)) (now (stream .entry)) sides pair (now (out .entry)) ⌝ }
+{
+    play_stream_floats_from(stream, file, 0, sides, pair, out)
 }

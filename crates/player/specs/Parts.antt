@@ -56,7 +56,7 @@ module _ (bytes : List ℕ) (e : verdict (moduleOf bytes) .number ≡ 0) (b : By
   soundings-after a = ticks-soundings (mechanismOf m) (λ w. w .voices) m (carries true m (module-legal bytes)) (module-legal bytes) e b a (s .song) (machineOf s) (facts .voiced)
 
   -- the ticks, the state after them, the count and the buffer of a + c ticks
-  ticks-then : (a c : ℕ) → ticksOf m (a + c) s ≡ ticksOf m a s ++ ticksOf m c (ticked m a s)
+  pub ticks-then : (a c : ℕ) → ticksOf m (a + c) s ≡ ticksOf m a s ++ ticksOf m c (ticked m a s)
   ticks-then a c = ticks-add m a c (s .song) (soundings (s .voices)) ∙ rw (soundings-after a)
 
   ticked-add : (a c : ℕ) → ticked m (a + c) s ≡ ticked m c (ticked m a s)
