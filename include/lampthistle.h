@@ -2,9 +2,9 @@
 
    ANSWERS
    A call answers a number, a place and a count. Number 0 is accepted; another number is a refusal, and the place says where, 0 where
-   none is named. The count is ticks played (play, play_stream, and the same as floats), touches answered (touch_burst), bytes written
-   (translate) or a cause's number (why_quiet); 0 for the other calls and for every refusal. All three cells are written by every call
-   that takes them. lampthistle_refusal_text says a number in words.
+   none is named. The count is ticks played (play, play_stream, play_stream_from, and the same as floats), touches answered
+   (touch_burst), bytes written (translate) or a cause's number (why_quiet); 0 for the other calls and for every refusal. All three
+   cells are written by every call that takes them. lampthistle_refusal_text says a number in words.
 
    WHAT A CALLER OWES
    Every pointer is aligned for its type and good for its length for the whole call, and none that is written overlaps another. A
@@ -30,7 +30,8 @@
    call; lampthistle_tick_numbers then says how many numbers it wrote.
 
    FLOATS
-   play_floats and play_stream_floats play the same ticks as 32-bit floats, for as many sides as are asked for. A frame is then
+   play_floats, play_stream_floats and play_stream_floats_from play the same ticks as 32-bit floats, for as many sides as are asked
+   for. A frame is then
      for 1 side, LAMPTHISTLE_MONO, one number: the sum of left and right / 65,536;
      for 2 sides, LAMPTHISTLE_STEREO, two numbers: left / 32,768, then right / 32,768;
    each from -1 up to, not including, 1. Every float is exact, so that left and right times 32,768 are the 16-bit numbers again. 0 is
@@ -64,7 +65,10 @@
    A stream holds the ticks of a song as registers for a sound board: tempo, and for each channel sample, volume, period and start.
    The board takes samples from the module, never its patterns or table. Translation writes version 2, whose ticks are as long as the
    player's. A stream of version 1, which the library wrote before 0.2.0, is played as it was then: each tick has 120,000 div tempo
-   frames, with no remainder. docs/FORMATS.md gives every byte. */
+   frames, with no remainder. docs/FORMATS.md gives every byte.
+   A stream is rendered piece by piece in a small buffer by play_stream_from, each piece from the tick after the last that was counted.
+   Any piece can be played by itself: its frames are those of the whole play. A call first runs the ticks before its own, without
+   writing them, so that a larger buffer, with fewer calls, takes less time. */
 #ifndef LAMPTHISTLE_H
 #define LAMPTHISTLE_H
 
@@ -76,11 +80,11 @@ extern "C" {
 #endif
 
 #define LAMPTHISTLE_VERSION_MAJOR 0
-#define LAMPTHISTLE_VERSION_MINOR 4
-#define LAMPTHISTLE_VERSION_PATCH 1
+#define LAMPTHISTLE_VERSION_MINOR 5
+#define LAMPTHISTLE_VERSION_PATCH 0
 /* This header's version as one number, and as text. */
 #define LAMPTHISTLE_VERSION (1000000 * LAMPTHISTLE_VERSION_MAJOR + 1000 * LAMPTHISTLE_VERSION_MINOR + LAMPTHISTLE_VERSION_PATCH)
-#define LAMPTHISTLE_VERSION_TEXT "0.4.1"
+#define LAMPTHISTLE_VERSION_TEXT "0.5.0"
 /* Whether cells, refusals and calls of a version are those of this header. */
 #define LAMPTHISTLE_SAME_CELLS(version) ((version) / 1000 == LAMPTHISTLE_VERSION / 1000)
 
@@ -331,6 +335,19 @@ void lampthistle_play_stream(const uint8_t *stream, size_t stream_len, const uin
 void lampthistle_play_stream_floats(const uint8_t *stream, size_t stream_len, const uint8_t *file, size_t file_len,
                                     uint32_t sides, float *out, size_t out_len, float pair[2], uint32_t *pair_tick,
                                     uint64_t answer[LAMPTHISTLE_ANSWER_CELLS]);
+
+/* Plays the ticks of a stream from tick `from` on, counted from 0: the largest number of whole ticks, beginning with that one, whose
+   frames fit into `out`; counts them. Their frames are those that lampthistle_play_stream has for these ticks: the ticks before `from`
+   move voices and remainder, but are not written. The first frame stands at out[0], and the rest of `out` stays. Any `from` is
+   accepted; where the stream has no such tick nothing is played. Refusals 1 to 9, 21 to 23. */
+void lampthistle_play_stream_from(const uint8_t *stream, size_t stream_len, const uint8_t *file, size_t file_len,
+                                  uint32_t from, int16_t *out, size_t out_len, uint64_t answer[LAMPTHISTLE_ANSWER_CELLS]);
+
+/* Plays as lampthistle_play_stream_from does, but floats for 1 or 2 `sides`, with `pair` and `pair_tick` as in lampthistle_play_floats:
+   tick `from` is the call's tick 0. Refusals 1 to 9, 24, 21 to 23, in this order. */
+void lampthistle_play_stream_floats_from(const uint8_t *stream, size_t stream_len, const uint8_t *file, size_t file_len,
+                                         uint32_t from, uint32_t sides, float *out, size_t out_len, float pair[2],
+                                         uint32_t *pair_tick, uint64_t answer[LAMPTHISTLE_ANSWER_CELLS]);
 
 #ifdef __cplusplus
 }

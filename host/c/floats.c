@@ -105,6 +105,36 @@ static void check_board(void) {
     }
 }
 
+/* A note that is held through three ticks: from each of them on, floats and record are the whole's, and the record's tick counts in the
+   call. Without a frame both stay. */
+static void check_from(void) {
+    static const uint8_t HELD[] = {0, 0, 0, 17, 2, 0, 0, 0, 3, 1, 0x7D, 1, 0x40, 1, 0xAC, 1, 0, 0, 0x7D, 0, 0x7D};
+    static float whole[3 * 2 * FRAMES];
+    float last[2];
+    uint32_t sides, from;
+    for (sides = LAMPTHISTLE_MONO; sides <= LAMPTHISTLE_STEREO; sides++) {
+        const size_t tick = sides * FRAMES;
+        lampthistle_play_stream_floats(HELD, sizeof HELD, file, sizeof file, sides, whole, 3 * tick, last, &pair_tick, answer);
+        for (from = 0; from < 3; from++) {
+            begin();
+            lampthistle_play_stream_floats_from(HELD, sizeof HELD, file, sizeof file, from, sides, out, tick - 1, pair, &pair_tick, answer);
+            CHECK_ANSWER(answer, LAMPTHISTLE_ACCEPTED, 0, 0);
+            CHECK(record_kept() && kept(0));
+            lampthistle_play_stream_floats_from(HELD, sizeof HELD, file, sizeof file, from, sides, out, 3 * tick, pair, &pair_tick, answer);
+            CHECK_ANSWER(answer, LAMPTHISTLE_ACCEPTED, 0, 3 - from);
+            CHECK(memcmp(out, whole + from * tick, (3 - from) * tick * sizeof(float)) == 0);
+            CHECK(memcmp(pair, last, sizeof pair) == 0 && pair_tick == 2 - from);
+            CHECK(kept((3 - from) * tick));
+        }
+        begin();
+        lampthistle_play_stream_floats_from(HELD, sizeof HELD, file, sizeof file, 3, sides, out, tick, pair, &pair_tick, answer);
+        CHECK_ANSWER(answer, LAMPTHISTLE_ACCEPTED, 0, 0);
+        lampthistle_play_stream_floats_from(HELD, sizeof HELD, file, sizeof file, UINT32_MAX, sides, NULL, 0, pair, &pair_tick, answer);
+        CHECK_ANSWER(answer, LAMPTHISTLE_ACCEPTED, 0, 0);
+        CHECK(record_kept() && kept(0));
+    }
+}
+
 /* Refusals write the answer alone; 24 comes after 14, and on the board after 9 and before 21. */
 static void check_refusals(void) {
     static const uint32_t OTHERS[] = {0, 3, 258, UINT32_MAX};
@@ -120,8 +150,12 @@ static void check_refusals(void) {
         CHECK_ANSWER(answer, LAMPTHISTLE_REFUSED_SIDES, 0, 0);
         lampthistle_play_stream_floats(NULL, 0, file, 1, OTHERS[k], out, 2 * FRAMES, pair, &pair_tick, answer);
         CHECK_ANSWER(answer, LAMPTHISTLE_REFUSED_SHORT_FILE, 1, 0);
+        lampthistle_play_stream_floats_from(NULL, 0, file, sizeof file, 5, OTHERS[k], out, 2 * FRAMES, pair, &pair_tick, answer);
+        CHECK_ANSWER(answer, LAMPTHISTLE_REFUSED_SIDES, 0, 0);
     }
     lampthistle_play_stream_floats(NULL, 0, file, sizeof file, LAMPTHISTLE_MONO, NULL, 0, pair, &pair_tick, answer);
+    CHECK_ANSWER(answer, LAMPTHISTLE_REFUSED_STREAM_LENGTH, 0, 0);
+    lampthistle_play_stream_floats_from(NULL, 0, file, sizeof file, 5, LAMPTHISTLE_MONO, NULL, 0, pair, &pair_tick, answer);
     CHECK_ANSWER(answer, LAMPTHISTLE_REFUSED_STREAM_LENGTH, 0, 0);
     state.cell[LAMPTHISTLE_TEMPO] = 31;
     before = state;
@@ -138,6 +172,7 @@ int main(void) {
     check_tick(LAMPTHISTLE_MONO, 65536);
     check_record();
     check_board();
+    check_from();
     check_refusals();
     return checked("floats");
 }

@@ -18,6 +18,9 @@ typedef struct input {
     block module, state, stream;
 } input;
 
+/* The ticks from which streams are played. */
+static const uint32_t FROM[] = {0, 1, 2, 29, UINT32_MAX};
+
 static unsigned long answers[KINDS];
 static int faults;
 
@@ -68,6 +71,15 @@ static void count(const uint64_t *answer, int k) {
     if (answer[LAMPTHISTLE_NUMBER] < KINDS) answers[answer[LAMPTHISTLE_NUMBER]]++;
 }
 
+static uint32_t from_of(int k) {
+    return FROM[(size_t)k % (sizeof FROM / sizeof FROM[0])];
+}
+
+/* Fills a block with the pattern again. */
+static void refill(block b) {
+    if (b.at) memset(b.at, PATTERN, b.bytes);
+}
+
 /* The calls that write a buffer, on a part of a block. */
 static void buffers(const input *in, int k, size_t numbers, size_t guard) {
     uint64_t answer[LAMPTHISTLE_ANSWER_CELLS];
@@ -85,6 +97,12 @@ static void buffers(const input *in, int k, size_t numbers, size_t guard) {
                             numbers, answer);
     count(answer, k);
     check(kept(board, guard, answer[LAMPTHISTLE_NUMBER] == 0 ? bytes : 0), "play_stream wrote outside", k);
+
+    refill(board);
+    lampthistle_play_stream_from(in->stream.at, in->stream.bytes, in->module.at, in->module.bytes, from_of(k),
+                                 (int16_t *)(void *)within(board, guard), numbers, answer);
+    count(answer, k);
+    check(kept(board, guard, answer[LAMPTHISTLE_COUNT] == 0 ? 0 : bytes), "play_stream_from wrote outside", k);
 
     lampthistle_translate(in->module.at, in->module.bytes, 5, within(room, guard), numbers, answer);
     count(answer, k);
@@ -109,13 +127,20 @@ static void floats(const input *in, int k, size_t numbers, size_t guard) {
     check(kept(out, guard, answer[LAMPTHISTLE_NUMBER] == 0 ? bytes : 0), "play_floats wrote outside", k);
     check(answer[LAMPTHISTLE_NUMBER] == 0 || memcmp(state, in->state.at, sizeof state) == 0, "a refused play_floats changed the state", k);
     check((answer[LAMPTHISTLE_COUNT] == 0) == (kept(pair, 0, 0) && kept(tick, 0, 0)), "play_floats and the record", k);
-    memset(pair.at, PATTERN, pair.bytes), memset(tick.at, PATTERN, tick.bytes);
+    refill(pair), refill(tick);
 
     lampthistle_play_stream_floats(in->stream.at, in->stream.bytes, in->module.at, in->module.bytes, sides,
                                    (float *)(void *)within(board, guard), numbers, left, pair_tick, answer);
     count(answer, k);
     check(kept(board, guard, answer[LAMPTHISTLE_NUMBER] == 0 ? bytes : 0), "play_stream_floats wrote outside", k);
     check((answer[LAMPTHISTLE_COUNT] == 0) == (kept(pair, 0, 0) && kept(tick, 0, 0)), "play_stream_floats and the record", k);
+    refill(board), refill(pair), refill(tick);
+
+    lampthistle_play_stream_floats_from(in->stream.at, in->stream.bytes, in->module.at, in->module.bytes, from_of(k), sides,
+                                        (float *)(void *)within(board, guard), numbers, left, pair_tick, answer);
+    count(answer, k);
+    check(kept(board, guard, answer[LAMPTHISTLE_COUNT] == 0 ? 0 : bytes), "play_stream_floats_from wrote outside", k);
+    check((answer[LAMPTHISTLE_COUNT] == 0) == (kept(pair, 0, 0) && kept(tick, 0, 0)), "play_stream_floats_from and the record", k);
     free(out.at), free(board.at), free(pair.at), free(tick.at);
 }
 

@@ -9,7 +9,7 @@
 #include <string.h>
 
 enum { STACK = 1 << 20, PATTERN = 0xA5, MODULE = 1 << 20, TICKS = 1500, NUMBERS = 1 << 22, ROOM = 1 << 20 };
-enum { TOUCHES = LAMPTHISTLE_MOST_TOUCHES };
+enum { TOUCHES = LAMPTHISTLE_MOST_TOUCHES, FROM = TICKS / 2 };
 
 static uint8_t stack[STACK] __attribute__((aligned(4096)));
 static uint8_t module[MODULE], room[ROOM];
@@ -83,6 +83,17 @@ static void *play_stream_floats(void *none) {
     return none;
 }
 
+static void *play_stream_from(void *none) {
+    lampthistle_play_stream_from(room, stream_length, module, module_length, FROM, out, NUMBERS, answer);
+    return none;
+}
+
+static void *play_stream_floats_from(void *none) {
+    lampthistle_play_stream_floats_from(room, stream_length, module, module_length, FROM, LAMPTHISTLE_STEREO, floats, NUMBERS, pair,
+                                        &pair_tick, answer);
+    return none;
+}
+
 /* The bytes of a stack that grows down which are no longer the pattern. */
 static size_t taken(void *(*call)(void *)) {
     pthread_attr_t about;
@@ -99,7 +110,7 @@ static size_t taken(void *(*call)(void *)) {
 
 static size_t measure(const char *name, void *(*call)(void *)) {
     size_t bytes = taken(call) - taken(nothing);
-    printf("  %-18s %6lu bytes, answer %lu\n", name, (unsigned long)bytes, (unsigned long)answer[LAMPTHISTLE_NUMBER]);
+    printf("  %-23s %6lu bytes, answer %lu\n", name, (unsigned long)bytes, (unsigned long)answer[LAMPTHISTLE_NUMBER]);
     return bytes;
 }
 
@@ -109,8 +120,10 @@ static int measure_all(void) {
         const char *name;
         void *(*call)(void *);
     } CALLS[] = {{"fresh", fresh}, {"judge", judge}, {"play", play}, {"why_quiet", why_quiet}, {"touch", touch},
-                 {"touch_burst", touch_burst}, {"change_page", change_page}, {"translate", translate}, {"play_stream", play_stream}},
-      FLOATS[] = {{"play_floats", play_floats}, {"play_stream_floats", play_stream_floats}};
+                 {"touch_burst", touch_burst}, {"change_page", change_page}, {"translate", translate}, {"play_stream", play_stream},
+                 {"play_stream_from", play_stream_from}},
+      FLOATS[] = {{"play_floats", play_floats}, {"play_stream_floats", play_stream_floats},
+                  {"play_stream_floats_from", play_stream_floats_from}};
     size_t most = 0, most_floats = 0, bytes, k;
     for (k = 0; k < sizeof CALLS / sizeof CALLS[0]; k++) {
         bytes = measure(CALLS[k].name, CALLS[k].call);
@@ -138,6 +151,8 @@ int main(int words, char **word) {
     translate(NULL);
     play_stream(NULL);
     play_stream_floats(NULL);
+    play_stream_from(NULL);
+    play_stream_floats_from(NULL);
     played = measure_all();
     module[1080] = 0;
     refused = measure_all();

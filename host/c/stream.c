@@ -73,6 +73,51 @@ static void check_versions(void) {
     }
 }
 
+/* A note that is held through four ticks at tempo 255, of 470, 471, 470 and 471 frames: whatever tick a play begins with, its frames are
+   those of the whole, and a buffer one number short of a tick takes none. */
+static void check_from(void) {
+    static const uint8_t HELD[] = {0, 0, 0, 19, 2, 0, 0, 0, 4, 1, 255, 1, 0x40, 1, 0xAC, 1, 0, 0, 255, 0, 255, 0, 255};
+    static const size_t BEGIN[] = {0, 940, 1882, 2822, 3764};
+    static int16_t whole[3764], part[3764];
+    uint32_t from;
+    lampthistle_play_stream(HELD, sizeof HELD, file, sizeof file, whole, 3764, answer);
+    CHECK_ANSWER(answer, LAMPTHISTLE_ACCEPTED, 0, 4);
+    for (from = 0; from < 4; from++) {
+        const size_t all = BEGIN[4] - BEGIN[from], tick = BEGIN[from + 1] - BEGIN[from];
+        memset(part, FILLED, sizeof part);
+        lampthistle_play_stream_from(HELD, sizeof HELD, file, sizeof file, from, part, tick - 1, answer);
+        CHECK_ANSWER(answer, LAMPTHISTLE_ACCEPTED, 0, 0);
+        CHECK(((const uint8_t *)part)[0] == FILLED);
+        lampthistle_play_stream_from(HELD, sizeof HELD, file, sizeof file, from, part, tick + 1, answer);
+        CHECK_ANSWER(answer, LAMPTHISTLE_ACCEPTED, 0, 1);
+        CHECK(memcmp(part, whole + BEGIN[from], tick * sizeof *part) == 0);
+        CHECK(((const uint8_t *)(part + tick))[0] == FILLED);
+        lampthistle_play_stream_from(HELD, sizeof HELD, file, sizeof file, from, part, all, answer);
+        CHECK_ANSWER(answer, LAMPTHISTLE_ACCEPTED, 0, 4 - from);
+        CHECK(memcmp(part, whole + BEGIN[from], all * sizeof *part) == 0);
+    }
+}
+
+/* No tick of this number, no buffer, and refusals, which are those of the whole from any tick. */
+static void check_from_nowhere(void) {
+    static const uint32_t PAST[] = {1, 2, UINT32_MAX};
+    static int16_t out[TICK], before[TICK];
+    size_t k;
+    memset(out, FILLED, sizeof out);
+    memcpy(before, out, sizeof out);
+    lampthistle_play_stream_from(ONE_NOTE, sizeof ONE_NOTE, file, sizeof file, 0, NULL, 0, answer);
+    CHECK_ANSWER(answer, LAMPTHISTLE_ACCEPTED, 0, 0);
+    for (k = 0; k < sizeof PAST / sizeof PAST[0]; k++) {
+        lampthistle_play_stream_from(ONE_NOTE, sizeof ONE_NOTE, file, sizeof file, PAST[k], out, TICK, answer);
+        CHECK_ANSWER(answer, LAMPTHISTLE_ACCEPTED, 0, 0);
+        lampthistle_play_stream_from(ONE_NOTE, sizeof ONE_NOTE - 1, file, sizeof file, PAST[k], out, TICK, answer);
+        CHECK_ANSWER(answer, LAMPTHISTLE_REFUSED_STREAM_LENGTH, sizeof ONE_NOTE - 1, 0);
+        lampthistle_play_stream_from(NULL, 0, NULL, 0, PAST[k], NULL, 0, answer);
+        CHECK_ANSWER(answer, LAMPTHISTLE_REFUSED_SHORT_FILE, 0, 0);
+    }
+    CHECK(memcmp(out, before, sizeof out) == 0);
+}
+
 static void check_refusals(void) {
     lampthistle_play_stream(ONE_NOTE, sizeof ONE_NOTE - 1, file, sizeof file, NULL, 0, answer);
     CHECK_ANSWER(answer, LAMPTHISTLE_REFUSED_STREAM_LENGTH, sizeof ONE_NOTE - 1, 0);
@@ -91,6 +136,8 @@ int main(void) {
     check_translate(sizeof file, ONE_NOTE, sizeof ONE_NOTE);
     check_board();
     check_versions();
+    check_from();
+    check_from_nowhere();
     check_refusals();
     return checked("stream");
 }

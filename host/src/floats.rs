@@ -78,3 +78,34 @@ pub fn play_stream_floats(
     [last.left, last.right] = pair;
     Answer::from_cells(answer)
 }
+
+/// Plays as `play_stream_from` does, but exact floats for one side or two. In `last` tick `from` is 0; without a frame it stays.
+pub fn play_stream_floats_from(
+    stream: &[u8],
+    file: &[u8],
+    from: u32,
+    sides: u32,
+    out: &mut [f32],
+    last: &mut Pair,
+) -> Answer {
+    let mut answer = [0; 3];
+    let mut pair = [last.left, last.right];
+    // SAFETY: the pointers are good for their lengths, and the exclusive borrows keep what is written apart.
+    unsafe {
+        sys::lampthistle_play_stream_floats_from(
+            stream.as_ptr(),
+            stream.len(),
+            file.as_ptr(),
+            file.len(),
+            from,
+            sides,
+            out.as_mut_ptr(),
+            out.len(),
+            &mut pair,
+            &mut last.tick,
+            &mut answer,
+        )
+    };
+    [last.left, last.right] = pair;
+    Answer::from_cells(answer)
+}

@@ -31,13 +31,15 @@ mod sys;
 mod version;
 
 pub use answer::{Answer, Refusal};
-pub use floats::{play_floats, play_stream_floats, tick_floats, Pair, MONO, STEREO};
+pub use floats::{
+    play_floats, play_stream_floats, play_stream_floats_from, tick_floats, Pair, MONO, STEREO,
+};
 pub use play::{
     change_page, fresh, play, tick_frames, tick_numbers, tick_rest, touch, touch_burst, State,
     CHANNELS, MOST_TOUCHES, RATE, STATE_CELLS, TICK_NUMBERS,
 };
 pub use quiet::{why_quiet, Cause};
-pub use stream::{play_stream, translate, MOST_TICKS};
+pub use stream::{play_stream, play_stream_from, translate, MOST_TICKS};
 pub use version::{same_cells, version, RELEASE, VERSION};
 
 /// Whether the bytes are a module that can be played. The count is 0.

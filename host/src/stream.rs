@@ -23,7 +23,7 @@ pub fn translate(file: &[u8], ticks: u32, room: &mut [u8]) -> Answer {
 }
 
 /// Plays the largest number of the ticks of a stream of version 1 or 2 whose frames fit into `out`, with the samples of the module in
-/// `file`, and counts them. The rest of `out` stays. It always begins at the stream's first tick, with stopped voices and remainder 0.
+/// `file`, and counts them. The rest of `out` stays. It begins at the stream's first tick, with stopped voices and remainder 0.
 pub fn play_stream(stream: &[u8], file: &[u8], out: &mut [i16]) -> Answer {
     let mut answer = [0; 3];
     // SAFETY: the pointers are good for their lengths, and the exclusive borrow keeps `out` apart from the others.
@@ -33,6 +33,26 @@ pub fn play_stream(stream: &[u8], file: &[u8], out: &mut [i16]) -> Answer {
             stream.len(),
             file.as_ptr(),
             file.len(),
+            out.as_mut_ptr(),
+            out.len(),
+            &mut answer,
+        )
+    };
+    Answer::from_cells(answer)
+}
+
+/// Plays as `play_stream` does, but from tick `from` on, counted from 0: the largest number of whole ticks, beginning with that one, whose
+/// frames fit into `out`. The ticks before it move voices and remainder, but are not written. Where there is no such tick nothing is played.
+pub fn play_stream_from(stream: &[u8], file: &[u8], from: u32, out: &mut [i16]) -> Answer {
+    let mut answer = [0; 3];
+    // SAFETY: the pointers are good for their lengths, and the exclusive borrow keeps `out` apart from the others.
+    unsafe {
+        sys::lampthistle_play_stream_from(
+            stream.as_ptr(),
+            stream.len(),
+            file.as_ptr(),
+            file.len(),
+            from,
             out.as_mut_ptr(),
             out.len(),
             &mut answer,

@@ -95,4 +95,27 @@ extern "C" {
         pair_tick: *mut u32,
         answer: *mut Answer,
     );
+    pub fn lampthistle_play_stream_from(
+        stream: *const u8,
+        stream_len: usize,
+        file: *const u8,
+        file_len: usize,
+        from: u32,
+        out: *mut i16,
+        out_len: usize,
+        answer: *mut Answer,
+    );
+    pub fn lampthistle_play_stream_floats_from(
+        stream: *const u8,
+        stream_len: usize,
+        file: *const u8,
+        file_len: usize,
+        from: u32,
+        sides: u32,
+        out: *mut f32,
+        out_len: usize,
+        pair: *mut Pair,
+        pair_tick: *mut u32,
+        answer: *mut Answer,
+    );
 }

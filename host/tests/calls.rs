@@ -1,8 +1,8 @@
 //! The safe wrappers, on modules small enough to know every answer.
 use lampthistle::{
     cell, change_page, fresh, judge, play, play_floats, play_stream, play_stream_floats,
-    tick_floats, tick_frames, tick_numbers, tick_rest, touch, touch_burst, translate, why_quiet,
-    Answer, Cause, Pair, Refusal, MONO, STEREO,
+    play_stream_floats_from, play_stream_from, tick_floats, tick_frames, tick_numbers, tick_rest,
+    touch, touch_burst, translate, why_quiet, Answer, Cause, Pair, Refusal, MONO, STEREO,
 };
 
 /// One empty pattern and no samples: 2,108 bytes.
@@ -233,6 +233,76 @@ fn other_sides_than_1_and_2_are_refused() {
     let answer = play_stream_floats(&[], &one_note(), MONO, &mut out, &mut last);
     assert_eq!(answer, refused(21, 0));
     assert_eq!((bits(&last), out), (HELD, [9.0; 2_000]));
+}
+
+/// Four ticks at tempo 255, of 470, 471, 470 and 471 frames, through which the note is held.
+const HELD_NOTE: [u8; 23] = [
+    0, 0, 0, 19, 2, 0, 0, 0, 4, 1, 255, 1, 0x40, 1, 0xAC, 1, 0, 0, 255, 0, 255, 0, 255,
+];
+const BEGINS: [usize; 5] = [0, 470, 941, 1_411, 1_882];
+
+#[test]
+fn a_stream_is_played_from_any_tick() {
+    let (file, mut whole) = (one_note(), [9; 3_764]);
+    assert_eq!(play_stream(&HELD_NOTE, &file, &mut whole), accepted(4));
+    for from in 0..4 {
+        let [begin, end] = [from, from + 1].map(|tick| 2 * BEGINS[tick]);
+        for (room, ticks, filled) in [
+            (end - begin - 1, 0, 0),
+            (end - begin + 1, 1, end - begin),
+            (4_000, 4 - from, 3_764 - begin),
+        ] {
+            let mut out = vec![9; room];
+            let answer = play_stream_from(&HELD_NOTE, &file, from as u32, &mut out);
+            assert_eq!(answer, accepted(ticks as u64), "from {from}");
+            assert_eq!(out[..filled], whole[begin..begin + filled]);
+            assert!(out[filled..].iter().all(|&number| number == 9));
+        }
+    }
+    let mut out = [9; 3_764];
+    for from in [4, 5, u32::MAX] {
+        assert_eq!(
+            play_stream_from(&HELD_NOTE, &file, from, &mut out),
+            accepted(0)
+        );
+        let refusal = play_stream_from(&HELD_NOTE[..22], &file, from, &mut out);
+        assert_eq!(refusal, refused(21, 22));
+        let refusal = play_stream_from(&[], &file[..9], from, &mut out);
+        assert_eq!(refusal, refused(1, 9));
+    }
+    assert_eq!(out, [9; 3_764]);
+}
+
+#[test]
+fn floats_are_played_from_any_tick() {
+    let file = one_note();
+    for sides in [MONO, STEREO] {
+        let (mut whole, mut last) = ([9.0; 3_764], held());
+        let answer = play_stream_floats(&HELD_NOTE, &file, sides, &mut whole, &mut last);
+        assert_eq!((answer, last.tick), (accepted(4), 3));
+        for from in 0..4 {
+            let begin = sides as usize * BEGINS[from as usize];
+            let (mut out, mut its) = ([9.0; 3_764], held());
+            let answer =
+                play_stream_floats_from(&HELD_NOTE, &file, from, sides, &mut out, &mut its);
+            assert_eq!(answer, accepted(4 - u64::from(from)));
+            assert_eq!(out[..3_764 - begin], whole[begin..]);
+            let [left, right, _] = bits(&last);
+            assert_eq!(bits(&its), [left, right, 3 - from]);
+        }
+    }
+    let (mut out, mut last) = ([9.0; 469], held());
+    for (stream, from, sides, answer) in [
+        (&HELD_NOTE[..], 0, MONO, accepted(0)),
+        (&HELD_NOTE, 4, MONO, accepted(0)),
+        (&HELD_NOTE, u32::MAX, STEREO, accepted(0)),
+        (&HELD_NOTE[..22], 4, 3, refused(24, 0)),
+        (&HELD_NOTE[..22], 4, STEREO, refused(21, 22)),
+    ] {
+        let given = play_stream_floats_from(stream, &file, from, sides, &mut out, &mut last);
+        assert_eq!((given, bits(&last)), (answer, HELD), "from {from}");
+    }
+    assert_eq!(out, [9.0; 469]);
 }
 
 #[test]

@@ -11,7 +11,7 @@ use Rattle.cells.specs.Cells.{stateOf}
 use Rattle.float_player.specs.declared.FloatReply.{FloatReply}
 use Rattle.float_player.specs.Play.{playFloatsOf}
 use Rattle.float_board.specs.declared.FloatAnswer.{FloatAnswer}
-use Rattle.float_board.specs.Board.{playStreamFloatsOf}
+use Rattle.float_board.specs.Board.{playStreamFloatsFromOf}
 use Rattle.replies.specs.Answers.{answerCells, cellsAfter}
 use Rattle.replies.specs.Pairs.{pairIn, pairAfter, pairTickAfter}
 use Rattle.capi.specs.Floats.{floatsOn, streamFloatsOn}
@@ -37,18 +37,18 @@ module _ (bytes state : List ℕ) (n sides : ℕ) (pair : List Float) (tick : �
   floats-left = ap (λ (x : Outcome FloatReply Float). x .out) here
 
 -- ---- the stream player's
-module _ (bytes stream : List ℕ) (sides : ℕ) (pair : List Float) (tick : ℕ) (out out′ : List Float) (old : Pair) (oe : old ≡ pairIn pair tick) (r : FloatAnswer) (e : outcome r out′ ≡ playStreamFloatsOf bytes stream sides old out) where
-  there : outcome r out′ ≡ streamFloatsOn bytes stream sides pair tick out
+module _ (bytes stream : List ℕ) (first sides : ℕ) (pair : List Float) (tick : ℕ) (out out′ : List Float) (old : Pair) (oe : old ≡ pairIn pair tick) (r : FloatAnswer) (e : outcome r out′ ≡ playStreamFloatsFromOf bytes stream first sides old out) where
+  there : outcome r out′ ≡ streamFloatsOn bytes stream first sides pair tick out
   there = e ∙ rw oe
 
-  pub stream-answered : (answer : List ℕ) → answer ≡ answerCells (r .answer) → answer ≡ answerCells (streamFloatsOn bytes stream sides pair tick out .reply .answer)
+  pub stream-answered : (answer : List ℕ) → answer ≡ answerCells (r .answer) → answer ≡ answerCells (streamFloatsOn bytes stream first sides pair tick out .reply .answer)
   stream-answered answer q = q ∙ ap (λ (x : Outcome FloatAnswer Float). answerCells (x .reply .answer)) there
 
-  pub stream-paired : (after : List Float) → after ≡ pairAfter (r .answer) (r .pair) pair → after ≡ pairAfter (streamFloatsOn bytes stream sides pair tick out .reply .answer) (streamFloatsOn bytes stream sides pair tick out .reply .pair) pair
+  pub stream-paired : (after : List Float) → after ≡ pairAfter (r .answer) (r .pair) pair → after ≡ pairAfter (streamFloatsOn bytes stream first sides pair tick out .reply .answer) (streamFloatsOn bytes stream first sides pair tick out .reply .pair) pair
   stream-paired after q = q ∙ ap (λ (x : Outcome FloatAnswer Float). pairAfter (x .reply .answer) (x .reply .pair) pair) there
 
-  pub stream-ticked : (after : ℕ) → after ≡ pairTickAfter (r .answer) (r .pair) tick → after ≡ pairTickAfter (streamFloatsOn bytes stream sides pair tick out .reply .answer) (streamFloatsOn bytes stream sides pair tick out .reply .pair) tick
+  pub stream-ticked : (after : ℕ) → after ≡ pairTickAfter (r .answer) (r .pair) tick → after ≡ pairTickAfter (streamFloatsOn bytes stream first sides pair tick out .reply .answer) (streamFloatsOn bytes stream first sides pair tick out .reply .pair) tick
   stream-ticked after q = q ∙ ap (λ (x : Outcome FloatAnswer Float). pairTickAfter (x .reply .answer) (x .reply .pair) tick) there
 
-  pub stream-left : out′ ≡ streamFloatsOn bytes stream sides pair tick out .out
+  pub stream-left : out′ ≡ streamFloatsOn bytes stream first sides pair tick out .out
   stream-left = ap (λ (x : Outcome FloatAnswer Float). x .out) there

@@ -9,7 +9,7 @@ ghost use Rattle.player.specs.Burst.{burstOf};
 ghost use Rattle.player.specs.Quiet.{whyQuietOf, whyAnswer};
 ghost use Rattle.cells.specs.Cells.{stateCells, stateOf};
 ghost use Rattle.translator.specs.Translate.{translateOf};
-ghost use Rattle.board.specs.Board.{playStreamOf};
+ghost use Rattle.board.specs.Board.{playStreamFromOf, playStreamOf};
 ghost use Rattle.replies.specs.Answers.{answerCells, cellsAfter};
 ghost use Rattle.replies.specs.Pairs.{pairAfter, pairTickAfter};
 ghost use Rattle.capi.specs.Floats.{floatsOn, streamFloatsOn};
@@ -24,7 +24,7 @@ use replies::put_reply;
 use replies::why_answer;
 
 // Major times 1,000,000, plus minor times 1,000, plus patch.
-const VERSION: u32 = 4001;
+const VERSION: u32 = 5000;
 
 // The version of the library that is linked.
 #[no_mangle]
@@ -166,6 +166,22 @@ pub extern "C" fn lampthistle_play_stream(
     put_answer(board::play_stream(stream, file, out), answer);
 }
 
+// Plays a stream's ticks from one on, counted from 0, with a module's samples.
+#[no_mangle]
+pub extern "C" fn lampthistle_play_stream_from(
+    stream: &[u8],
+    file: &[u8],
+    from: u32,
+    out: &mut [i16],
+    answer: &mut [u64; ANSWER_CELLS],
+)
+    ensures answered { λ _. ⌜ now (answer .exit) ≡ answerCells (playStreamFromOf (now (file .entry)) (now (stream .entry)) from (now (out .entry)) .reply) ⌝ }
+    ensures sounded { λ _. ⌜ now (out .exit) ≡ playStreamFromOf (now (file .entry)) (now (stream .entry)) from (now (out .entry)) .out ⌝ }
+{
+    let first = from as usize;
+    put_answer(board::play_stream_from(stream, file, first, out), answer);
+}
+
 // Plays the largest number of whole ticks, up to `ticks`, whose numbers fit into out, as floats for one side or two.
 #[no_mangle]
 pub extern "C" fn lampthistle_play_floats(
@@ -192,6 +208,31 @@ pub extern "C" fn lampthistle_play_floats(
     put_reply(reply, state, answer);
 }
 
+// Plays a stream's ticks from one on, counted from 0, with a module's samples, as floats for one side or two.
+#[no_mangle]
+pub extern "C" fn lampthistle_play_stream_floats_from(
+    stream: &[u8],
+    file: &[u8],
+    from: u32,
+    sides: u32,
+    out: &mut [f32],
+    pair: &mut [f32; PAIR_CELLS],
+    pair_tick: &mut u32,
+    answer: &mut [u64; ANSWER_CELLS],
+)
+    ensures answered { λ _. ⌜ now (answer .exit) ≡ answerCells (streamFloatsOn (now (file .entry)) (now (stream .entry)) from sides (now (pair .entry)) (now («pair_tick» .entry)) (now (out .entry)) .reply .answer) ⌝ }
+    ensures paired { λ _. ⌜ now (pair .exit) ≡ pairAfter (streamFloatsOn (now (file .entry)) (now (stream .entry)) from sides (now (pair .entry)) (now («pair_tick» .entry)) (now (out .entry)) .reply .answer) (streamFloatsOn (now (file .entry)) (now (stream .entry)) from sides (now (pair .entry)) (now («pair_tick» .entry)) (now (out .entry)) .reply .pair) (now (pair .entry)) ⌝ }
+    ensures ticked { λ _. ⌜ now («pair_tick» .exit) ≡ pairTickAfter (streamFloatsOn (now (file .entry)) (now (stream .entry)) from sides (now (pair .entry)) (now («pair_tick» .entry)) (now (out .entry)) .reply .answer) (streamFloatsOn (now (file .entry)) (now (stream .entry)) from sides (now (pair .entry)) (now («pair_tick» .entry)) (now (out .entry)) .reply .pair) (now («pair_tick» .entry)) ⌝ }
+    ensures sounded { λ _. ⌜ now (out .exit) ≡ streamFloatsOn (now (file .entry)) (now (stream .entry)) from sides (now (pair .entry)) (now («pair_tick» .entry)) (now (out .entry)) .out ⌝ }
+{
+    let old = pair_of(*pair, *pair_tick);
+    let first = from as usize;
+    let played = float_board::play_stream_floats_from(stream, file, first, sides, old, out);
+    let last = played.pair;
+    put_pair(played.answer, last, pair, pair_tick);
+    put_answer(played.answer, answer);
+}
+
 // Plays a stream with a module's samples, as floats for one side or two.
 #[no_mangle]
 pub extern "C" fn lampthistle_play_stream_floats(
@@ -203,14 +244,10 @@ pub extern "C" fn lampthistle_play_stream_floats(
     pair_tick: &mut u32,
     answer: &mut [u64; ANSWER_CELLS],
 )
-    ensures answered { λ _. ⌜ now (answer .exit) ≡ answerCells (streamFloatsOn (now (file .entry)) (now (stream .entry)) sides (now (pair .entry)) (now («pair_tick» .entry)) (now (out .entry)) .reply .answer) ⌝ }
-    ensures paired { λ _. ⌜ now (pair .exit) ≡ pairAfter (streamFloatsOn (now (file .entry)) (now (stream .entry)) sides (now (pair .entry)) (now («pair_tick» .entry)) (now (out .entry)) .reply .answer) (streamFloatsOn (now (file .entry)) (now (stream .entry)) sides (now (pair .entry)) (now («pair_tick» .entry)) (now (out .entry)) .reply .pair) (now (pair .entry)) ⌝ }
-    ensures ticked { λ _. ⌜ now («pair_tick» .exit) ≡ pairTickAfter (streamFloatsOn (now (file .entry)) (now (stream .entry)) sides (now (pair .entry)) (now («pair_tick» .entry)) (now (out .entry)) .reply .answer) (streamFloatsOn (now (file .entry)) (now (stream .entry)) sides (now (pair .entry)) (now («pair_tick» .entry)) (now (out .entry)) .reply .pair) (now («pair_tick» .entry)) ⌝ }
-    ensures sounded { λ _. ⌜ now (out .exit) ≡ streamFloatsOn (now (file .entry)) (now (stream .entry)) sides (now (pair .entry)) (now («pair_tick» .entry)) (now (out .entry)) .out ⌝ }
+    ensures answered { λ _. ⌜ now (answer .exit) ≡ answerCells (streamFloatsOn (now (file .entry)) (now (stream .entry)) 0 sides (now (pair .entry)) (now («pair_tick» .entry)) (now (out .entry)) .reply .answer) ⌝ }
+    ensures paired { λ _. ⌜ now (pair .exit) ≡ pairAfter (streamFloatsOn (now (file .entry)) (now (stream .entry)) 0 sides (now (pair .entry)) (now («pair_tick» .entry)) (now (out .entry)) .reply .answer) (streamFloatsOn (now (file .entry)) (now (stream .entry)) 0 sides (now (pair .entry)) (now («pair_tick» .entry)) (now (out .entry)) .reply .pair) (now (pair .entry)) ⌝ }
+    ensures ticked { λ _. ⌜ now («pair_tick» .exit) ≡ pairTickAfter (streamFloatsOn (now (file .entry)) (now (stream .entry)) 0 sides (now (pair .entry)) (now («pair_tick» .entry)) (now (out .entry)) .reply .answer) (streamFloatsOn (now (file .entry)) (now (stream .entry)) 0 sides (now (pair .entry)) (now («pair_tick» .entry)) (now (out .entry)) .reply .pair) (now («pair_tick» .entry)) ⌝ }
+    ensures sounded { λ _. ⌜ now (out .exit) ≡ streamFloatsOn (now (file .entry)) (now (stream .entry)) 0 sides (now (pair .entry)) (now («pair_tick» .entry)) (now (out .entry)) .out ⌝ }
 {
-    let old = pair_of(*pair, *pair_tick);
-    let played = float_board::play_stream_floats(stream, file, sides, old, out);
-    let last = played.pair;
-    put_pair(played.answer, last, pair, pair_tick);
-    put_answer(played.answer, answer);
+    lampthistle_play_stream_floats_from(stream, file, 0, sides, out, pair, pair_tick, answer);
 }

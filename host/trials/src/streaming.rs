@@ -1,14 +1,19 @@
-//! Translation and stream play: answer and every cell of room and buffer, of both implementations, on generated modules and on legal,
-//! bad and damaged streams.
+//! Translation and stream play, from the first tick on and from any other: answer and every cell of room and buffer, of both
+//! implementations, on generated modules and on legal, bad and damaged streams.
 use crate::answers::{same_answer, same_cells};
 use crate::files::file;
 use crate::lent::{length, Lent};
 use crate::runs::{over, Tally};
-use second::generate::streams::{bad_stream, damaged_stream, legal_stream};
+use second::generate::streams::{bad_stream, damaged_stream, first_tick, legal_stream};
 use second::generate::Random;
 
+/// Plays of streams from their first tick on, and from any tick.
+const WHOLES: usize = 2;
+const PARTS: usize = 2;
 /// Numbers that a buffer holds at most.
 const MOST_NUMBERS: usize = 20_000;
+/// Frames that are run before a part at most.
+const MOST_BEFORE: usize = 60_000;
 /// Bytes by which a room is longer than the stream at most.
 const MOST_ROOM: usize = 300;
 /// Ticks of most translations; few go to the limit and past it.
@@ -30,9 +35,10 @@ fn one(seed: u64, tally: &mut Tally) -> Result<(), String> {
         _ => random.below(MOST_TICKS),
     };
     let stream = same_translation(&mut random, &file, ticks, tally)?;
-    for _ in 0..3 {
+    for play in 0..WHOLES + PARTS {
         let stream = any_stream(&mut random, &file, &stream);
-        let number = same_stream(&mut random, &stream, &file)?;
+        let from = (play >= WHOLES).then(|| any_tick(&mut random, &stream));
+        let number = same_stream(&mut random, &stream, &file, from)?;
         tally[number as usize] += 1;
     }
     Ok(())
@@ -101,24 +107,60 @@ fn empty_records(random: &mut Random) -> Vec<u8> {
     stream
 }
 
-/// The frames of all the stream's ticks, or of as many as `most` takes.
-pub(crate) fn lengths_within(stream: &[u8], most: usize) -> usize {
+/// A tick to play from, of the stream's ticks or past them, but with few frames before it where it is to be played.
+pub(crate) fn any_tick(random: &mut Random, stream: &[u8]) -> u32 {
     let lengths = second::decode(stream).unwrap_or_default().lengths();
-    let sums = lengths.iter().scan(0, |sum, frames| {
-        *sum += frames;
-        (*sum <= most).then_some(*sum)
-    });
-    sums.last().unwrap_or(0)
+    let ticks = lengths.len() as u32;
+    let near = sums_within(&lengths, MOST_BEFORE).count() as u32;
+    match first_tick(random.number(), ticks) {
+        from if from < ticks => from.min(near),
+        past => past,
+    }
 }
 
-fn same_stream(random: &mut Random, stream: &[u8], file: &[u8]) -> Result<u64, String> {
-    let exact = 2 * lengths_within(stream, MOST_NUMBERS / 2);
+/// The frames of all the stream's ticks from one on, or of as many as `most` takes.
+pub(crate) fn lengths_within(stream: &[u8], from: u32, most: usize) -> usize {
+    let lengths = second::decode(stream).unwrap_or_default().lengths();
+    let played = lengths.get(from as usize..).unwrap_or(&[]);
+    sums_within(played, most).last().unwrap_or(0)
+}
+
+/// The frames of the first tick, of the first two and so on, as far as `most` takes them.
+fn sums_within(lengths: &[usize], most: usize) -> impl Iterator<Item = usize> + '_ {
+    lengths.iter().scan(0, move |sum, frames| {
+        *sum += frames;
+        (*sum <= most).then_some(*sum)
+    })
+}
+
+/// Plays the stream, or its part from a tick on.
+fn same_stream(
+    random: &mut Random,
+    stream: &[u8],
+    file: &[u8],
+    from: Option<u32>,
+) -> Result<u64, String> {
+    let exact = 2 * lengths_within(stream, from.unwrap_or(0), MOST_NUMBERS / 2);
     let mut ours = Lent::new(length(random, exact, MOST_NUMBERS));
     let mut other = ours.clone();
-    let told = format!("{} bytes into {} numbers", stream.len(), ours.part().len());
-    let answer = lampthistle::play_stream(stream, file, ours.part());
-    let second = second::play_stream(stream, file, other.part());
+    let numbers = ours.part().len();
+    let (answer, second) = match from {
+        None => (
+            lampthistle::play_stream(stream, file, ours.part()),
+            second::play_stream(stream, file, other.part()),
+        ),
+        Some(from) => (
+            lampthistle::play_stream_from(stream, file, from, ours.part()),
+            second::play_stream_from(stream, file, from, other.part()),
+        ),
+    };
     same_answer(answer, second)
         .and_then(|number| same_cells("buffer", ours.all(), other.all()).map(|()| number))
-        .map_err(|what| format!("stream of {told}: {what}"))
+        .map_err(|what| format!("{} into {numbers} numbers: {what}", told(stream, from)))
+}
+
+/// What is played: a stream, or its part from a tick on.
+pub(crate) fn told(stream: &[u8], from: Option<u32>) -> String {
+    let stream = format!("stream of {} bytes", stream.len());
+    from.map_or(stream.clone(), |from| format!("{stream} from tick {from}"))
 }

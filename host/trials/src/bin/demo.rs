@@ -1,4 +1,4 @@
-//! demo FILE [WAVES]: writes the demo module, and a second one with vibrato and tremolo.
+//! `demo FILE [WAVES]`: writes the demo module, and a second one with vibrato and tremolo.
 use std::ffi::OsString;
 use std::process::ExitCode;
 

@@ -11,16 +11,17 @@ use crate::files::file;
 use crate::lent::{length, Lent};
 use crate::playing::{first_state, numbers_of};
 use crate::runs::{over, Tally};
-use crate::streaming::{any_stream, lengths_within};
+use crate::streaming::{any_stream, any_tick, lengths_within, told};
 use lampthistle::{Answer, Pair, State};
 use second::generate::floats::{opposite, record, sides, Record};
 use second::generate::states::legal_state;
 use second::generate::Random;
 use second::STATE_CELLS;
 
-/// Calls on one module, and streams.
+/// Calls on one module, and plays of streams, from their first tick on and from any tick.
 const CALLS: u32 = 5;
-const STREAMS: u32 = 3;
+const WHOLES: u32 = 2;
+const PARTS: u32 = 2;
 /// Floats that a buffer holds at most, apart from exact lengths.
 const MOST_FLOATS: usize = 12_000;
 /// Ticks of a translation at most.
@@ -49,9 +50,10 @@ fn one(seed: u64, tally: &mut Tally) -> Result<(), String> {
         }
     }
     let translated = translated(&file, random.below(MOST_TICKS));
-    for _ in 0..STREAMS {
+    for play in 0..WHOLES + PARTS {
         let stream = any_stream(&mut random, &file, &translated);
-        let number = same_stream(&mut random, &stream, &file)?;
+        let from = (play >= WHOLES).then(|| any_tick(&mut random, &stream));
+        let number = same_stream(&mut random, &stream, &file, from)?;
         tally[number as usize] += 1;
     }
     Ok(())
@@ -194,41 +196,57 @@ fn divided(
     }
 }
 
-fn same_stream(random: &mut Random, stream: &[u8], file: &[u8]) -> Result<u64, String> {
+/// Plays the stream, or its part from a tick on.
+fn same_stream(
+    random: &mut Random,
+    stream: &[u8],
+    file: &[u8],
+    from: Option<u32>,
+) -> Result<u64, String> {
     let sides = asked(random);
-    let frames = lengths_within(stream, MOST_FLOATS / 2);
+    let frames = lengths_within(stream, from.unwrap_or(0), MOST_FLOATS / 2);
     let mut ours = lent(random, sides, frames);
     let mut other = ours.clone();
     let mut held = record(random.number());
-    let mut last = pair_of(&held);
-    let old = last;
-    let told = format!(
-        "stream of {} bytes for {sides} sides into {} floats",
-        stream.len(),
-        ours.part().len()
-    );
-    let answer = lampthistle::play_stream_floats(stream, file, sides, ours.part(), &mut last);
-    let Record { pair, tick } = &mut held;
-    let second = second::play_stream_floats(stream, file, sides, other.part(), pair, tick);
+    let (mut last, old) = (pair_of(&held), pair_of(&held));
+    let (out, Record { pair, tick }) = (ours.part(), &mut held);
+    let room = out.len();
+    let (answer, second) = match from {
+        None => (
+            lampthistle::play_stream_floats(stream, file, sides, out, &mut last),
+            second::play_stream_floats(stream, file, sides, other.part(), pair, tick),
+        ),
+        Some(from) => (
+            lampthistle::play_stream_floats_from(stream, file, from, sides, out, &mut last),
+            second::play_stream_floats_from(stream, file, from, sides, other.part(), pair, tick),
+        ),
+    };
     same_answer(answer, second)
         .and_then(|number| {
             same_floats("buffer", ours.all(), other.all())?;
             same_record(&last, &pair_of(&held))?;
             if number == 0 {
-                let numbers = streamed_numbers(stream, file, answer);
+                let numbers = streamed_numbers(stream, file, from, answer);
                 divided(&numbers, sides, answer, ours.part(), &last, &old)?;
             }
             Ok(number)
         })
-        .map_err(|what| format!("{told}: {what}"))
+        .map_err(|what| {
+            let told = told(stream, from);
+            format!("{told} for {sides} sides into {room} floats: {what}")
+        })
 }
 
 /// The 16-bit numbers of the stream's ticks that were played.
-fn streamed_numbers(stream: &[u8], file: &[u8], played: Answer) -> Vec<i16> {
+fn streamed_numbers(stream: &[u8], file: &[u8], from: Option<u32>, played: Answer) -> Vec<i16> {
     let lengths = second::decode(stream).unwrap_or_default().lengths();
-    let frames: usize = lengths[..played.count as usize].iter().sum();
+    let ticks = lengths.iter().skip(from.unwrap_or(0) as usize);
+    let frames: usize = ticks.take(played.count as usize).sum();
     let mut numbers = vec![0; 2 * frames];
-    let again = lampthistle::play_stream(stream, file, &mut numbers);
+    let again = match from {
+        None => lampthistle::play_stream(stream, file, &mut numbers),
+        Some(from) => lampthistle::play_stream_from(stream, file, from, &mut numbers),
+    };
     assert_eq!(again, played, "as many ticks as 16-bit numbers");
     numbers
 }

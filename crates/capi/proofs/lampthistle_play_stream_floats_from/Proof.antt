@@ -1,8 +1,8 @@
--- The answer's and the record's cells and the buffer are those of the outcome that `play_stream_floats` ensures.
+-- The answer's and the record's cells and the buffer are those of the outcome that `play_stream_floats_from` ensures.
 use Rattle.capi.proofs.Floats.{stream-answered, stream-paired, stream-ticked, stream-left}
 use borrow.Author.Needs.{needs}
-use Rattle.capi.proofs.lampthistle_play_stream_floats.Statement.{statement}
-use Rattle.capi.proofs.lampthistle_play_stream_floats.Tie as tie
+use Rattle.capi.proofs.lampthistle_play_stream_floats_from.Statement.{statement}
+use Rattle.capi.proofs.lampthistle_play_stream_floats_from.Tie as tie
 
 returns : tie.Need-returns
 returns c = (
@@ -10,6 +10,6 @@ returns c = (
   (search (stream-paired, needs), (search (stream-ticked, needs), search (stream-left, needs))),
 )
 
-pub lampthistle-play-stream-floats-spec : {M : Type 1} → statement M
-lampthistle-play-stream-floats-spec =
+pub lampthistle-play-stream-floats-from-spec : {M : Type 1} → statement M
+lampthistle-play-stream-floats-from-spec =
     tie.close (tie.spec (λ c κs. search needs) (λ c κs. search needs) (λ c κs. search needs) (λ c κs. search needs) (λ c. search needs) returns)
