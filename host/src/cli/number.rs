@@ -63,8 +63,14 @@ pub trait Number: Copy + Default {
     /// Plays ticks for so many sides.
     fn play(file: &[u8], state: &mut State, ticks: u32, sides: usize, out: &mut [Self]) -> Answer;
 
-    /// Plays a stream for so many sides.
-    fn play_stream(stream: &[u8], file: &[u8], sides: usize, out: &mut [Self]) -> Answer;
+    /// Plays a stream from a tick on, for so many sides.
+    fn play_stream_from(
+        stream: &[u8],
+        file: &[u8],
+        from: u32,
+        sides: usize,
+        out: &mut [Self],
+    ) -> Answer;
 
     /// Adds the bytes of a file, low byte first.
     fn put(self, bytes: &mut Vec<u8>);
@@ -85,8 +91,14 @@ impl Number for i16 {
         lampthistle::play(file, state, ticks, out)
     }
 
-    fn play_stream(stream: &[u8], file: &[u8], _sides: usize, out: &mut [i16]) -> Answer {
-        lampthistle::play_stream(stream, file, out)
+    fn play_stream_from(
+        stream: &[u8],
+        file: &[u8],
+        from: u32,
+        _sides: usize,
+        out: &mut [i16],
+    ) -> Answer {
+        lampthistle::play_stream_from(stream, file, from, out)
     }
 
     fn put(self, bytes: &mut Vec<u8>) {
@@ -113,8 +125,15 @@ impl Number for f32 {
         lampthistle::play_floats(file, state, ticks, sides as u32, out, &mut Pair::default())
     }
 
-    fn play_stream(stream: &[u8], file: &[u8], sides: usize, out: &mut [f32]) -> Answer {
-        lampthistle::play_stream_floats(stream, file, sides as u32, out, &mut Pair::default())
+    fn play_stream_from(
+        stream: &[u8],
+        file: &[u8],
+        from: u32,
+        sides: usize,
+        out: &mut [f32],
+    ) -> Answer {
+        let mut last = Pair::default();
+        lampthistle::play_stream_floats_from(stream, file, from, sides as u32, out, &mut last)
     }
 
     fn put(self, bytes: &mut Vec<u8>) {

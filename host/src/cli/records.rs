@@ -1,13 +1,11 @@
-//! The records of a tick stream that the library wrote or accepted, read and written by offset.
+//! The records of a tick stream that the library wrote or accepted, read by offset.
 use lampthistle::{tick_frames, tick_rest, CHANNELS};
 
-/// Where the count of ticks is, and the bytes before the first record and of one channel's command.
+/// Where the version and the count of ticks are, and the bytes before the first record and of one channel's command.
+const VERSION: usize = 4;
 const TICKS: std::ops::Range<usize> = 5..9;
 const START: usize = 9;
 const COMMAND_BYTES: usize = 6;
-/// Bytes that the stream's first number does not count, and the version.
-const UNCOUNTED: usize = 4;
-const VERSION: usize = 4;
 /// The version whose ticks leave no remainder.
 const DRIFTING: u8 = 1;
 
@@ -35,7 +33,6 @@ impl Command {
 }
 
 /// The records from one on.
-#[derive(Clone)]
 pub struct Records<'a> {
     rest: &'a [u8],
 }
@@ -70,7 +67,6 @@ pub fn frames(stream: &[u8]) -> u64 {
 
 /// How long the ticks of a stream are, one after the other: by version 1 each by its tempo alone, by version 2 with the remainder of
 /// those before it.
-#[derive(Clone, Copy)]
 pub struct Lengths {
     version: u8,
     tempo: u32,
@@ -89,7 +85,7 @@ impl Lengths {
     }
 
     /// The remainder with which a next tick at this tempo begins.
-    pub fn carried(&self, tempo: u32) -> u32 {
+    fn carried(&self, tempo: u32) -> u32 {
         if self.tempo == tempo {
             self.remainder
         } else {
@@ -139,43 +135,5 @@ impl Iterator for Records<'_> {
             tempo: tempo.into(),
             commands,
         })
-    }
-}
-
-/// A stream that is being written.
-pub struct Writer {
-    bytes: Vec<u8>,
-    ticks: u32,
-}
-
-impl Writer {
-    /// A stream of this version without a tick.
-    pub fn new(version: u8) -> Writer {
-        let mut bytes = vec![0; START];
-        bytes[VERSION] = version;
-        Writer { bytes, ticks: 0 }
-    }
-
-    pub fn write(&mut self, record: &Record) {
-        let channels = record.commands.iter().enumerate();
-        let mask = channels.fold(0, |mask, (channel, command)| {
-            mask | u8::from(command.is_some()) << channel
-        });
-        self.bytes.extend_from_slice(&[mask, record.tempo as u8]);
-        for command in record.commands.iter().flatten() {
-            let [high, low] = command.period.to_be_bytes();
-            let (sample, volume, start) = (command.sample, command.volume, command.start.into());
-            let bytes = [sample, volume, high, low, start, command.offset];
-            self.bytes.extend_from_slice(&bytes);
-        }
-        self.ticks += 1;
-    }
-
-    /// The whole stream, and its ticks.
-    pub fn finish(mut self) -> (Vec<u8>, u64) {
-        let follow = (self.bytes.len() - UNCOUNTED) as u32;
-        self.bytes[..UNCOUNTED].copy_from_slice(&follow.to_be_bytes());
-        self.bytes[TICKS].copy_from_slice(&self.ticks.to_be_bytes());
-        (self.bytes, self.ticks.into())
     }
 }

@@ -1,7 +1,7 @@
 //! What the commands for tick streams print and write.
 use crate::common::{own, said, stored, told};
 use std::os::unix::fs::symlink;
-use std::process::Command;
+use std::process::{Command, Stdio};
 
 fn translated(module: &str, ticks: &str, name: &str) -> String {
     let stream = own(name).to_str().unwrap().to_string();
@@ -71,12 +71,12 @@ fn silence(name: &str, ticks: u32) -> String {
     stream.to_str().unwrap().into()
 }
 
-/// Runs the command in an address space of 64 MB.
-fn in_small_memory(words: &[&str]) -> (i32, String, String) {
-    let script = "ulimit -v 65536; exec \"$0\" \"$@\"";
+/// Runs the command in an address space of 64 MB; what is resident is a part of it.
+fn in_small_memory(words: &[&str], out: Stdio) -> (i32, String, String) {
+    let script = "ulimit -v 62500; exec \"$0\" \"$@\"";
     let mut shell = Command::new("sh");
     shell.args(["-c", script, env!("CARGO_BIN_EXE_lampthistle")]);
-    said(shell.args(words).output().unwrap())
+    said(shell.args(words).stdout(out).output().unwrap())
 }
 
 #[test]
@@ -89,7 +89,7 @@ fn the_board_plays_any_length() {
     let null = null.to_str().unwrap();
     let words = ["board", "--plain", &stream, &stored("flow"), "--out", null];
     let answer = (0, "0 0 80000\n".into(), String::new());
-    assert_eq!(in_small_memory(&words), answer);
+    assert_eq!(in_small_memory(&words, Stdio::piped()), answer);
     let stream = silence("larger.stream", 300_000);
     let words = ["board", &stream, &stored("flow"), "--out", "larger.wav"];
     let (status, out, err) = told(&words);
@@ -99,21 +99,51 @@ fn the_board_plays_any_length() {
 
 #[test]
 fn player_and_board_are_compared_in_pieces() {
-    // 120,000 frames in 255 ticks: 75 MB of sound, and a piece has 8,913 ticks.
+    // 120,000 frames in 255 ticks: 75 MB of sound. In `flow` two channels hold their notes to the end.
     let answer = (0, "0 0 40000\n".into(), String::new());
-    for name in ["effects", "edges"] {
+    for name in ["effects", "edges", "flow"] {
         let words = ["compare", &stored(name), "--ticks", "40000", "--plain"];
-        assert_eq!(in_small_memory(&words), answer, "{name}");
+        assert_eq!(in_small_memory(&words, Stdio::piped()), answer, "{name}");
     }
-    // Two channels hold their notes to the end: their sound since then needs the memory.
-    let words = ["compare", &stored("flow"), "--ticks", "40000", "--plain"];
-    assert_eq!(told(&words), answer);
-    let (status, out, err) = in_small_memory(&words);
-    assert_eq!((status, out.as_str()), (2, ""));
-    assert!(
-        err.contains("the sound since the oldest note that is held"),
-        "{err}"
-    );
+}
+
+/// A module whose first row starts a looped note at tempo 32 that nothing ends: its second position jumps to itself.
+fn held(name: &str) -> String {
+    let mut file = vec![0; 1_084 + 2 * 1_024];
+    // Sample 1: length, volume and repeat length. Two positions, of patterns 0 and 1.
+    (file[43], file[45], file[49]) = (4, 64, 4);
+    (file[950], file[953]) = (2, 1);
+    file[1080..1084].copy_from_slice(b"M.K.");
+    // The first cell has the note with F20, the last row begins with B01.
+    file[1084..1088].copy_from_slice(&[1, 0xAC, 0x1F, 32]);
+    let last = file.len() - 16;
+    file[last..last + 4].copy_from_slice(&[0, 0, 0x0B, 1]);
+    file.extend_from_slice(&[1, 2, 100, 90, 50, 156, 200, 30]);
+    let module = own(name);
+    std::fs::write(&module, file).unwrap();
+    module.to_str().unwrap().into()
+}
+
+#[test]
+fn a_note_held_through_65535_ticks_is_played_in_small_memory() {
+    // 983 MB of sound as 16-bit numbers.
+    let module = held("held.mod");
+    let stream = translated(&module, "65535", "held.stream");
+    for options in [&[][..], &["--float"]] {
+        let words = ["board", "--plain", &stream, &module, "--out", "-"];
+        let (status, _, err) = in_small_memory(&[&words, options].concat(), Stdio::null());
+        assert_eq!((status, err.as_str()), (0, "0 0 65535\n"));
+    }
+}
+
+#[test]
+fn a_note_held_through_65535_ticks_is_compared_in_small_memory() {
+    let module = held("held_compared.mod");
+    for options in [&[][..], &["--float"]] {
+        let words = ["compare", "--plain", &module, "--ticks", "65535"];
+        let (status, out, err) = in_small_memory(&[&words, options].concat(), Stdio::piped());
+        assert_eq!((status, out.as_str()), (0, "0 0 65535\n"), "{err}");
+    }
 }
 
 #[test]
