@@ -1,4 +1,4 @@
-//! Translation, ns a tick; and the board against the player on the same module, ns a frame.
+//! Translation, ns a tick; the board against the player on the same module, ns a frame; and the ticks before a part, ns a tick.
 use super::modules::{busy, sliding};
 use crate::say::say;
 use crate::timing::print_medians;
@@ -19,6 +19,10 @@ pub fn print() {
     say("play_stream against play, 10 to 1,000 ticks");
     for ticks in [10, 100, 1_000] {
         board_and_player(&file, ticks);
+    }
+    say("play_stream_from the last of 100 to 10,000 ticks");
+    for ticks in [100, 1_000, 10_000] {
+        last_tick(&file, ticks);
     }
 }
 
@@ -67,4 +71,28 @@ fn board_and_player(file: &[u8], ticks: u32) {
         ],
     );
     assert!(board == player && board == other, "all play the same");
+}
+
+fn last_tick(file: &[u8], ticks: u32) {
+    let mut room = vec![0; MOST_BYTES];
+    let bytes = lampthistle::translate(file, ticks, &mut room).count as usize;
+    let (stream, last) = (&room[..bytes], ticks - 1);
+    let mut part = vec![0; 2 * FRAMES];
+    let mut other = part.clone();
+    print_medians(
+        "tick",
+        f64::from(ticks),
+        &mut [
+            (&format!("proved, {ticks} ticks"), &mut || {
+                let _ = black_box(lampthistle::play_stream_from(stream, file, last, &mut part));
+            }),
+            (
+                &format!("second implementation, {ticks} ticks"),
+                &mut || {
+                    black_box(second::play_stream_from(stream, file, last, &mut other));
+                },
+            ),
+        ],
+    );
+    assert!(part == other, "both play the same");
 }
