@@ -14,7 +14,8 @@ use Rattle.player.specs.declared.Reply.{Reply}
 use Rattle.player.specs.State.{legalState, reply}
 use Rattle.player.specs.Touch.{withSong, touchedAt, touchLines, touchOf}
 use Rattle.player.specs.Burst.{Burst, touchAt, stateThrough, answerTo, takenFrom, burstLines}
-use Rattle.player.specs.Keeps.{touch-judged, touched-keeps}
+use Rattle.player.specs.Bursts.{through-keeps}
+use Rattle.player.specs.Keeps.{touch-judged}
 
 -- a touch by its own lines
 unfoldable pub touchFrom : ℕ → State → ℕ → ℕ → ℕ → Reply
@@ -35,18 +36,12 @@ module _ (bytes : List ℕ) (e : verdict (moduleOf bytes) .number ≡ 0) (burst 
   abbrev inner : State → ℕ → ℕ → ℕ → Reply
   inner = touchFrom (songLength (moduleOf bytes))
 
-  -- each touch meets a legal state
-  kept : (k : ℕ) → legalState (moduleOf bytes) (stateThrough single burst s k) ≡ true
-  unfolding stateThrough
-  kept zero = l
-  kept (suc k) = touched-keeps bytes (stateThrough single burst s k) (kept k) _ _ _
-
   once : (t : State) → legalState (moduleOf bytes) t ≡ true → (page made position : ℕ) → inner t page made position ≡ single t page made position
   unfolding touchFrom
   once t h page made position = sym (touch-judged bytes e t h page made position)
 
   by-state : (k : ℕ) → stateThrough inner burst s k ≡ stateThrough single burst s k → touchAt inner burst s k (stateThrough inner burst s k) ≡ touchAt single burst s k (stateThrough single burst s k)
-  by-state k q = ap (touchAt inner burst s k) q ∙ once (stateThrough single burst s k) (kept k) _ _ _
+  by-state k q = ap (touchAt inner burst s k) q ∙ once (stateThrough single burst s k) (through-keeps bytes burst s l k) _ _ _
 
   same-state : (k : ℕ) → stateThrough inner burst s k ≡ stateThrough single burst s k
   unfolding stateThrough
