@@ -1,4 +1,4 @@
--- What a tick wants of the machine that is to play it as floats, and of the sides that are asked for; and what a loop of ticks knows of both.
+-- What a tick wants of the machine that is to play it as floats, and of the sides that are asked for; what it returns; and what a loop of ticks knows of both.
 -- Assumes nothing.
 use Prim.Native.Nat.{ℕ, _+_, _≤_, _<_}
 use mathlib.Core.Path.{_≡_, ap, _∙_}
@@ -16,9 +16,10 @@ use Rattle.reader.specs.declared.Extent.{Extent}
 use Rattle.reader.specs.declared.Layout.{Layout}
 use Rattle.voice.specs.LegalFacts.{Ready}
 use Rattle.machine.specs.declared.Machine.{Machine}
-use Rattle.machine.specs.Turn.{turn, turnOf}
+use Rattle.machine.specs.Turn.{Turned, turn, turnOf}
 use Rattle.machine.specs.Turns.{turn-machine}
 use Rattle.float_machine.specs.declared.FloatMachine.{FloatMachine}
+use Rattle.float_machine.specs.declared.FloatTurn.{FloatTurn}
 use Rattle.float_machine.specs.Machine.{floatAfter, floatsBy}
 
 -- a tick of this number in the call, for a page of one side or two
@@ -31,6 +32,10 @@ pub record Due (l : Layout) (bytes : List ℕ) (extents : List Extent) (w : Mach
   pub early : number < 4294967295
   pub low : 1 ≤ sides
   pub high : sides ≤ 2
+
+-- a turn as it was returned, with the buffer that it left
+abbrev pub floatTurned : FloatTurn → List Float → Turned Float FloatMachine
+floatTurned r out = turn (r .full) (r .size) (r .machine) out
 
 -- ---- a loop of ticks
 -- the number of the next tick is how many were played, and the sides are one or two

@@ -8,11 +8,9 @@ use lib.Ieee.{Float}
 use Rattle.ticks.specs.declared.Tick.{Tick}
 use Rattle.ticks.specs.Play.{Mechanism}
 use Rattle.machine.specs.declared.Machine.{Machine}
-use Rattle.machine.specs.Turn.{Turned, turn}
 use Rattle.floats.specs.declared.Pair.{Pair}
 use Rattle.floats.specs.Frames.{floatsOf, lastOf}
 use Rattle.float_machine.specs.declared.FloatMachine.{FloatMachine}
-use Rattle.float_machine.specs.declared.FloatTurn.{FloatTurn}
 
 -- before a call's first tick, which has number 0: the machine, and the record that the call was given
 abbrev pub floatMachine : Machine → Pair → FloatMachine
@@ -30,7 +28,3 @@ module _ (k : Mechanism ℤ Machine Tick) where
 -- how it plays ticks, for a page of so many sides
 abbrev pub floatsBy : ℕ → Mechanism ℤ Machine Tick → Mechanism Float FloatMachine Tick
 floatsBy sides k = record { frames = floatFrames k sides; after = floatAfter k }
-
--- a turn as it was returned, with the buffer that it left
-abbrev pub floatTurned : FloatTurn → List Float → Turned Float FloatMachine
-floatTurned r out = turn (r .full) (r .size) (r .machine) out
