@@ -38,7 +38,7 @@ module _ (bytes : List ℕ) (e : verdict (moduleOf bytes) .number ≡ 0) (b : By
   m = moduleOf bytes
 
   -- the player's state before tick `first`
-  abbrev there : State
+  abbrev pub there : State
   there = ticked m first freshState
 
   fresh-long : length (freshState .voices) ≡ width
@@ -48,17 +48,17 @@ module _ (bytes : List ℕ) (e : verdict (moduleOf bytes) .number ≡ 0) (b : By
   fresh-legal : legalState m freshState ≡ true
   fresh-legal = fresh-state m (module-legal bytes) e
 
-  there-legal : legalState m there ≡ true
+  pub there-legal : legalState m there ≡ true
   there-legal = state-by m (module-legal bytes) there (ticked-legal m (module-legal bytes) e b freshState (state-has m (module-legal bytes) freshState fresh-long fresh-legal) first)
 
   -- the stream's ticks: those before it, and those that the player plays on from there
-  ticks-are : freshTicks m (first + n) ≡ ticksOf m first freshState ++ ticksOf m n there
+  pub ticks-are : freshTicks m (first + n) ≡ ticksOf m first freshState ++ ticksOf m n there
   ticks-are = sym (fresh-ticks m (first + n)) ∙ ticks-then bytes e b freshState fresh-long fresh-legal first n
 
-  before-long : length (ticksOf m first freshState) ≡ first
+  pub before-long : length (ticksOf m first freshState) ≡ first
   before-long = length-ticks m first (freshState .song) (soundings (freshState .voices))
 
-  led-there : ledTo true (channelCount m) (samplesOf m) first (ticksOf m first freshState ++ ticksOf m n there) ≡ machineOf there
+  pub led-there : ledTo true (channelCount m) (samplesOf m) first (ticksOf m first freshState ++ ticksOf m n there) ≡ machineOf there
   unfolding ledTo freshState freshSong freshMachine
   led-there = rw (take-at (ticksOf m first freshState) (ticksOf m n there) first before-long) (sym (machine-ticked m first freshState))
 

@@ -37,7 +37,7 @@ use Rattle.float_agreement.specs.declared.FloatBoth.{FloatBoth}
 use Rattle.float_agreement.specs.Demand.{FloatCalls, floatKind, FloatAgreement}
 
 -- what a play leaves beside its state
-abbrev heard : Outcome FloatReply Float → Outcome FloatAnswer Float
+abbrev pub heard : Outcome FloatReply Float → Outcome FloatAnswer Float
 heard o = outcome (floatAnswer (o .reply .reply .answer) (o .reply .pair)) (o .out)
 
 abbrev answered : Outcome FloatAnswer Float → Outcome Answer Float

@@ -9,10 +9,10 @@ use native.Mathlib.Nat.{add-zero}
 use native.Mathlib.Omega.{arith}
 use lib.Dec.{leb}
 use lib.IntN.{ℤ}
-use lib.ListN.{length}
+use lib.ListN.{length, take}
 use lib.Ieee.{Float}
 use Rattle.ticks.specs.declared.Tick.{Tick}
-use Rattle.ticks.specs.Play.{Mechanism, afterAll, rendered, fit}
+use Rattle.ticks.specs.Play.{Mechanism, afterAll, rendered, fit, playOut}
 use Rattle.reader.specs.Samples.{Sample}
 use Rattle.machine.specs.declared.Machine.{Machine}
 use Rattle.machine.specs.Machine.{tickLength, mechanism}
@@ -62,3 +62,11 @@ module _ (sides : ℕ) (k : Mechanism ℤ Machine Tick) where
   same-fit room w v (t ∷ ts) e =
       let n = length (floatsOf sides (k .frames (v .machine) t)) in
       rw e (ap (λ (i : ℕ). cond (leb n room) (suc i) 0) (same-fit (room - n) _ _ ts refl))
+
+-- nor do the numbers of the ticks that fit
+pub same-out : (sides : ℕ) (keeps : Bool) (c : ℕ) (samples : ℕ → Sample) (w v : FloatMachine) (ts : List Tick) (out : List Float) → w .machine ≡ v .machine
+    → playOut (floatsBy sides (mechanism keeps c samples)) w ts out ≡ playOut (floatsBy sides (mechanism keeps c samples)) v ts out
+unfolding playOut
+same-out sides keeps c samples w v ts out e =
+    let k = floatsBy sides (mechanism keeps c samples) in
+    rw (same-fit sides (mechanism keeps c samples) (length out) w v ts e, same-numbers sides keeps c samples w (take (fit k (length out) v ts) ts), same-numbers sides keeps c samples v (take (fit k (length out) v ts) ts), e)

@@ -12,7 +12,7 @@ use borrow.Author.Tests.{lt-ltb, le-leb, eq-eqb}
 use Rattle.laws.specs.Ranges.{first}
 use Rattle.common.specs.Answers.{refusing}
 use Rattle.common.specs.ByteLaws.{Bytes}
-use Rattle.reader.specs.File.{Module, moduleOf, channelCount}
+use Rattle.reader.specs.File.{moduleOf, channelCount}
 use Rattle.reader.specs.Judge.{verdict}
 use Rattle.reader.specs.Samples.{Sample, extentsOf}
 use Rattle.voice.specs.declared.quiet.Cause.{Cause}
@@ -24,10 +24,8 @@ use Rattle.voice.specs.Modules.{samples-bytes}
 use Rattle.voice.specs.Quiet.{causeOf, causeNumber}
 use Rattle.voice.specs.QuietLaws.{holdsAt, first-cause, gives-sounds, sounds-gives}
 use Rattle.player.specs.declared.State.{State}
-use Rattle.player.specs.declared.Why.{Why}
-use Rattle.player.specs.declared.Why.the-variants.{Because}
 use Rattle.player.specs.State.{legalState}
-use Rattle.player.specs.Quiet.{voiceCause, whyQuietOf, whyAnswer}
+use Rattle.player.specs.Quiet.{whyQuietOf, whyAnswer}
 
 -- number 6 is that of "it sounds" alone
 six-sounds : (c : Cause) → causeNumber c ≡ 6 → c ≡ Sounds

@@ -1,12 +1,13 @@
--- Playing on any machine: the ticks that are played fit (`fit-fits`), no larger number does (`fit-most`), and n ticks and then j are n + j (`play-append`).
+-- Playing on any machine: the ticks that are played fit (`fit-fits`), no larger number does (`fit-most`), n ticks and then j are n + j (`play-append`),
+-- and a play in two parts is one play (`fit-parts`, `play-parts`).
 -- Assumes nothing.
 use Prim.Native.Nat.{ℕ, zero, suc, _+_, _-_, _≤_, _<_, zero-le, suc-le-suc}
 use mathlib.Core.Path.{_≡_, refl, sym, ap, _∙_}
 use mathlib.Core.List.{List, [], _∷_, _++_, append-assoc}
 use native.Mathlib.Nat.{zero-add, suc-add}
 use native.Mathlib.Omega.{arith}
-use lib.ListN.{length, take, drop, length-drop, length-append}
-use lib.Seq.{drop-drop, take-append-add}
+use lib.ListN.{length, take, drop, length-drop, length-append, take-append-drop}
+use lib.Seq.{drop-drop, length-take-le, take-append-add, take-append-seam}
 use lib.Dec.{leb}
 use borrow.Author.Tests.{le-leb, lt-leb, leb-true}
 use Rattle.laws.specs.Choice.{either}
@@ -98,3 +99,38 @@ module _ {A W T : Type 0} (m : Mechanism A W T) where
       let r : rendered m w (take (fit m (length buffer) w (ss ++ ts)) (ss ++ ts)) ≡ xs ++ ys = rw (fit-append (length buffer) w ss ts h, take-append-add ss ts k, rendered-append w ss (take k ts)) in
       let d : drop (length (xs ++ ys)) buffer ≡ drop (length ys) (drop (length xs) buffer) = ap (λ (i : ℕ). drop i buffer) (length-append xs ys) ∙ sym (drop-drop (length ys) (length xs) buffer) in
       rw (r, n, d, append-assoc)
+
+  -- ---- a play in two parts: as many ticks as fit a part's room, and then the others
+  module _ (w : W) (ts : List T) (part : List A) where
+    -- how many ticks the part holds, and their numbers
+    abbrev pub partCount : ℕ
+    partCount = fit m (length part) w ts
+
+    abbrev pub partNumbers : List A
+    partNumbers = rendered m w (take partCount ts)
+
+    -- where the part ends
+    abbrev pub partEnd : W
+    partEnd = afterAll m w (take partCount ts)
+
+    module _ (buffer : List A) (h : length part ≤ length buffer) where
+      inside : length partNumbers ≤ length buffer
+      inside = omega (arith, fit-fits (length part) w ts)
+
+      -- the counts add up
+      pub fit-parts : fit m (length buffer) w ts ≡ partCount + fit m (length (drop (length partNumbers) buffer)) partEnd (drop partCount ts)
+      fit-parts =
+          ap (fit m (length buffer) w) (sym (take-append-drop partCount ts))
+          ∙ fit-append (length buffer) w (take partCount ts) (drop partCount ts) inside
+          ∙ rw (length-take-le partCount ts (fit-le (length part) w ts), length-drop (length partNumbers) buffer)
+
+      front : take (length partNumbers) (playOut m w ts part) ≡ partNumbers
+      unfolding playOut
+      front = take-append-seam partNumbers (drop (length partNumbers) part)
+
+      -- and the buffers follow each other
+      pub play-parts : playOut m w ts buffer ≡ take (length partNumbers) (playOut m w ts part) ++ playOut m partEnd (drop partCount ts) (drop (length partNumbers) buffer)
+      play-parts =
+          ap (λ (us : List T). playOut m w us buffer) (sym (take-append-drop partCount ts))
+          ∙ play-append w (take partCount ts) (drop partCount ts) buffer inside
+          ∙ ap (λ (xs : List A). xs ++ playOut m partEnd (drop partCount ts) (drop (length partNumbers) buffer)) (sym front)
