@@ -13,7 +13,7 @@ use Rattle.common.specs.Limits.{width}
 use Rattle.ticks.specs.declared.Tick.{Tick}
 use Rattle.ticks.specs.Commands.{soundingOf}
 use Rattle.ticks.specs.Legal.{LegalTick, LegalTicks, length-sounding}
-use Rattle.ticks.specs.Legal.LegalTicks.{more}
+use Rattle.ticks.specs.Legal.LegalTicks.{none, more}
 use Rattle.ticks.specs.Play.{over, Mechanism, fit, afterAll, rendered, playOut}
 use Rattle.reader.specs.File.{moduleOf, sampleCount, channelCount}
 use Rattle.reader.specs.Layouts.{module-legal}
@@ -72,6 +72,12 @@ pub legal-onward : (last n : ℕ) (soundings : List ℕ) → length soundings �
 legal-onward last zero soundings long ts l = record { soundings = soundings; long = long; legal = l }
 legal-onward last (suc n) soundings long [] l = record { soundings = soundings; long = long; legal = l }
 legal-onward last (suc n) soundings long (t ∷ ts) (more l ls) = legal-onward last n (soundingOf (t .commands)) (length-sounding (t .commands) ∙ (l .long ∙ long)) ts ls
+
+-- and those up to one are legal
+pub legal-take : (last n : ℕ) (soundings : List ℕ) (ts : List Tick) → LegalTicks last soundings ts → LegalTicks last soundings (take n ts)
+legal-take last zero soundings ts l = none
+legal-take last (suc n) soundings [] l = none
+legal-take last (suc n) soundings (t ∷ ts) (more l ls) = more l (legal-take last n (soundingOf (t .commands)) ts ls)
 
 -- ---- samples that are equal by their numbers, up to the last
 module _ (keeping : Bool) (last c : ℕ) (room : c ≤ width) (samples others : ℕ → Sample) (same : (k : ℕ) → k ≤ last → samples k ≡ others k) where

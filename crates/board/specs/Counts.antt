@@ -14,7 +14,7 @@ use Rattle.common.specs.Limits.{leastTempo, greatestTempo}
 use Rattle.common.specs.LimitFacts.{Between}
 use Rattle.ticks.specs.declared.Tick.{Tick}
 use Rattle.ticks.specs.Play.{over, Mechanism, afterAll, rendered, fit, playOut}
-use Rattle.ticks.specs.PlayLaws.{fit-fits, fit-most}
+use Rattle.ticks.specs.PlayLaws.{fit-fits, fit-most, play-front}
 use Rattle.reader.specs.File.{moduleOf, sampleCount, channelCount}
 use Rattle.reader.specs.Judge.{verdict}
 use Rattle.reader.specs.Samples.{Sample}
@@ -53,6 +53,10 @@ module _ (bytes stream : List ℕ) (ts : List Tick) where
     pub stream-out : playStreamFromOf bytes stream first out .out ≡ over (streamNumbers first (playStreamFromOf bytes stream first out .reply .count)) out
     unfolding playOut
     stream-out = rw (stream-count, stream-played)
+
+    -- so that it begins with the numbers of the first k ticks from there on, for every k up to the count
+    pub stream-front : (k : ℕ) → k ≤ playStreamFromOf bytes stream first out .reply .count → take (length (streamNumbers first k)) (playStreamFromOf bytes stream first out .out) ≡ streamNumbers first k
+    stream-front k h = rw stream-played (play-front streamMechanism (streamLed first) (drop first ts) out k (rw stream-count at h))
 
     -- they fit
     pub stream-fits : length (streamNumbers first (playStreamFromOf bytes stream first out .reply .count)) ≤ length out

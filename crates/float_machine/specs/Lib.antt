@@ -1,3 +1,4 @@
 pub mod Machine
 pub mod Due
 pub mod Beside
+pub mod Exact

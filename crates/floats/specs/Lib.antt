@@ -3,3 +3,4 @@ pub mod Frames
 pub mod Quotient
 pub mod Lengths
 pub mod Theorems
+pub mod Delivered

@@ -1,18 +1,22 @@
 -- What is known of a machine: legal ones, which a tick keeps legal; the range of its numbers; and that it depends on the samples that sound, and on no other.
 -- Assumes nothing.
 use Prim.Native.Nat.{ℕ, _≤_, _<_}
-use mathlib.Core.Path.{_≡_, ap}
+use mathlib.Core.Path.{_≡_, ap, _∙_}
 use mathlib.Core.Bool.{Bool}
-use mathlib.Core.List.{List}
+use mathlib.Core.List.{List, [], _∷_}
 use native.Mathlib.Omega.{arith}
-use lib.IntN.{pos}
+use lib.IntN.{ℤ, pos}
 use lib.ListN.{length, getD}
 use lib.Signed.{mag}
 use Rattle.laws.specs.Each.{length-each, getD-each}
+use Rattle.laws.specs.Lists.{append-each}
 use Rattle.common.specs.ByteLaws.{Bytes}
 use Rattle.common.specs.Limits.{width, loudest}
 use Rattle.ticks.specs.declared.Tick.{Tick}
-use Rattle.ticks.specs.Commands.{nothing}
+use Rattle.ticks.specs.Commands.{nothing, soundingOf}
+use Rattle.ticks.specs.Legal.{LegalTicks, length-sounding}
+use Rattle.ticks.specs.Legal.LegalTicks.{more}
+use Rattle.ticks.specs.Play.{rendered}
 use Rattle.voice.specs.LegalFacts.{LegalVoices, Ready}
 use Rattle.reader.specs.declared.Extent.{Extent}
 use Rattle.reader.specs.declared.Layout.{Layout}
@@ -28,7 +32,7 @@ use Rattle.voice.specs.Range.{mixed-fits, half16}
 use Rattle.machine.specs.declared.Machine.{Machine}
 use Rattle.machine.specs.Lengths.{keptAt}
 use Rattle.machine.specs.LengthLaws.{kept-below}
-use Rattle.machine.specs.Machine.{freshMachine, begins, tickLength, frames, after}
+use Rattle.machine.specs.Machine.{freshMachine, begins, tickLength, frames, after, mechanism}
 
 -- ---- legal machines
 -- its voices are legal, and its remainder is below its tempo
@@ -83,6 +87,15 @@ module _ (keeps : Bool) (c : ℕ) (samples : ℕ → Sample) (w : Machine) (t : 
 pub frames-fit : (c : ℕ) (samples : ℕ → Sample) (w : Machine) (t : Tick) → c ≤ width → ((k : ℕ) → Bytes (samples k .bytes)) → ((i : ℕ) → i < c → getD (t .commands) i nothing .volume ≤ loudest) → (j : ℕ) → mag (getD (frames c samples w t) j (pos 0)) < half16
 unfolding frames
 frames-fit c samples w t room bytes low = mixed-fits c room samples bytes (w .voices) (t .commands) low (tickLength w t)
+
+-- and none of a list of legal ticks, on any machine
+pub rendered-fit : (keeps : Bool) (last c : ℕ) (samples : ℕ → Sample) → c ≤ width → ((k : ℕ) → Bytes (samples k .bytes)) → (w : Machine) (soundings : List ℕ) → length soundings ≡ width → (ts : List Tick) → LegalTicks last soundings ts
+    → (j : ℕ) → mag (getD (rendered (mechanism keeps c samples) w ts) j (pos 0)) < half16
+unfolding rendered
+rendered-fit keeps last c samples room bytes w soundings long [] l = λ j. omega arith
+rendered-fit keeps last c samples room bytes w soundings long (t ∷ ts) (more l ls) =
+    append-each (λ (z : ℤ). mag z < half16) (pos 0) (frames c samples w t) _ (frames-fit c samples w t room bytes (λ i h. l .commands i (omega arith) .volume))
+    (rendered-fit keeps last c samples room bytes (after keeps c samples w t) (soundingOf (t .commands)) (length-sounding (t .commands) ∙ (l .long ∙ long)) ts ls)
 
 -- ---- a tick depends on the samples that its commands name, and on no other
 module _ (c : ℕ) (samples others : ℕ → Sample) (w : Machine) (t : Tick) (same : (i : ℕ) → i < c → soundingAt samples (t .commands) i ≡ soundingAt others (t .commands) i) where

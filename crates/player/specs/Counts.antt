@@ -18,7 +18,7 @@ use Rattle.sequencer.specs.Runs.{ticksFrom, songAfter}
 use Rattle.sequencer.specs.RunLaws.{tick-tempo, length-ticks}
 use Rattle.player.specs.declared.State.{State}
 use Rattle.player.specs.Play.{soundings, ticksOf, machineOf, stateAfter, countOf, playedFrom, numbersOf}
-use Rattle.ticks.specs.PlayLaws.{fit-le, fit-fits, fit-most}
+use Rattle.ticks.specs.PlayLaws.{fit-le, fit-fits, fit-most, play-front}
 use Rattle.voice.specs.Voice.{samplesOf}
 use Rattle.voice.specs.Frames.{frameNumbers}
 use Rattle.machine.specs.declared.Machine.{Machine}
@@ -61,6 +61,9 @@ module _ {A W : Type 0} (k : Mechanism A W Tick) (m : Module) (s : State) (w : W
   pub first-out : playOut k w (ticksOf m n s) out ≡ over (rendered k w (ticksOf m countBy s)) out
   unfolding playOut
   first-out = rw first-ticks
+
+  pub first-front : (j : ℕ) → j ≤ countBy → take (length (rendered k w (ticksOf m j s))) (playOut k w (ticksOf m n s) out) ≡ rendered k w (ticksOf m j s)
+  first-front j h = rw (← take-ticks m j n (s .song) (soundings (s .voices)) (omega (arith, fit-within))) (play-front k w (ticksOf m n s) out j h)
 
 -- ---- the player's
 -- the state after k ticks
@@ -109,3 +112,8 @@ module _ (m : Module) (n : ℕ) (s : State) (out : List ℤ) where
   pub played-out : playedFrom m s n out .out ≡ over (numbersOf m (countOf m n s out) s) out
   unfolding playedFrom
   played-out = first-out (mechanismOf m) m s (machineOf s) n out
+
+  -- so that it begins with the numbers of the first k ticks, for every k up to the count
+  pub played-front : (k : ℕ) → k ≤ countOf m n s out → take (roomOf m k s) (playedFrom m s n out .out) ≡ numbersOf m k s
+  unfolding playedFrom
+  played-front = first-front (mechanismOf m) m s (machineOf s) n out

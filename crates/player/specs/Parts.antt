@@ -1,40 +1,35 @@
 -- Playing in two parts is playing at once (`play-add`), and no number leaves 16 bits (`numbers-in-16`).
 -- Assumes nothing.
-use Prim.Native.Nat.{ℕ, zero, suc, _+_, _≤_, _<_}
-use mathlib.Core.Path.{_≡_, sym, ap, subst, _∙_}
+use Prim.Native.Nat.{ℕ, _+_, _≤_, _<_}
+use mathlib.Core.Path.{_≡_, sym, ap, _∙_}
 use mathlib.Core.Bool.{true}
-use mathlib.Core.List.{List, [], _∷_, _++_}
-use native.Mathlib.Omega.{arith}
+use mathlib.Core.List.{List, _++_}
+use native.Mathlib.Nat.{le-refl}
 use lib.IntN.{ℤ, pos}
 use lib.Signed.{mag}
 use lib.ListN.{length, getD, take, drop, length-drop}
-use lib.Seq.{take-append-seam}
 use Rattle.common.specs.Answers.{accepted, Outcome, outcome}
 use Rattle.common.specs.ByteLaws.{Bytes}
 use Rattle.common.specs.Limits.{width}
-use Rattle.ticks.specs.Play.{rendered}
-use Rattle.reader.specs.File.{Module, moduleOf, channelCount}
+use Rattle.reader.specs.File.{Module, moduleOf, sampleCount, channelCount}
+use Rattle.reader.specs.Accept.{accepted-has}
 use Rattle.reader.specs.Judge.{verdict}
 use Rattle.ticks.specs.PlayLaws.{fit-append, play-append, after-append}
 use Rattle.reader.specs.Layouts.{LegalLayout, module-legal}
 use Rattle.reader.specs.Samples.{extentsOf}
-use Rattle.sequencer.specs.declared.Song.{Song}
-use Rattle.sequencer.specs.Songs.{tickOf}
-use Rattle.sequencer.specs.Runs.{ticksFrom}
-use Rattle.sequencer.specs.RunLaws.{length-ticks, ticks-add, song-add, soundingAfter}
+use Rattle.sequencer.specs.RunLaws.{length-ticks, ticks-add, song-add, soundingAfter, runs-ticks}
 use Rattle.voice.specs.Voice.{samplesOf}
 use Rattle.voice.specs.Range.{half16}
 use Rattle.voice.specs.Modules.{samples-bytes}
-use Rattle.machine.specs.declared.Machine.{Machine}
-use Rattle.machine.specs.Machine.{frames, mechanismOf}
-use Rattle.machine.specs.Kept.{frames-fit}
+use Rattle.machine.specs.Machine.{mechanismOf}
+use Rattle.machine.specs.Kept.{rendered-fit}
 use Rattle.player.specs.declared.State.{State}
 use Rattle.player.specs.declared.Reply.{Reply}
 use Rattle.player.specs.State.{legalState, reply}
 use Rattle.player.specs.Play.{soundings, machineOf, ticksOf, countOf, playedFrom, playOf, numbersOf}
-use Rattle.player.specs.Legal.{LegalVoiced, LegalState, state-has, state-by}
-use Rattle.player.specs.Kept.{state-run, tick-is-legal, tick-kept, after-soundings}
-use Rattle.player.specs.Counts.{ticked, machine-ticked, count-fits, played-state, played-out, roomOf}
+use Rattle.player.specs.Legal.{LegalState, state-has, state-by}
+use Rattle.player.specs.Kept.{state-run}
+use Rattle.player.specs.Counts.{ticked, machine-ticked, count-fits, played-state, played-front, roomOf}
 use Rattle.player.specs.Keeps.{ticks-soundings, ticked-legal, play-accepted}
 use Rattle.machine.specs.Carries.{carries}
 
@@ -80,12 +75,9 @@ module _ (bytes : List ℕ) (e : verdict (moduleOf bytes) .number ≡ 0) (b : By
         ∙ ticked-add a (countOf m c (ticked m a s) (drop (roomOf m a s) out))
         ∙ sym (played-state m c (ticked m a s) (drop (roomOf m a s) out))
 
-    first-out : take (roomOf m a s) (playedFrom m s a out .out) ≡ numbersOf m a s
-    first-out = rw (played-out m a s out, all) (take-append-seam (numbersOf m a s) (drop (roomOf m a s) out))
-
     out-add : playedFrom m s (a + c) out .out ≡ take (roomOf m a s) (playedFrom m s a out .out) ++ playedFrom m (ticked m a s) c (drop (roomOf m a s) out) .out
     unfolding playedFrom
-    out-add = rw (first-out, ticks-then a c, machine-ticked m a s) (play-append (mechanismOf m) (machineOf s) (ticksOf m a s) (ticksOf m c (ticked m a s)) out all-fit)
+    out-add = rw (played-front m a s out a (rw all (le-refl a)), ticks-then a c, machine-ticked m a s) (play-append (mechanismOf m) (machineOf s) (ticksOf m a s) (ticksOf m c (ticked m a s)) out all-fit)
 
   -- a call that plays all of its a ticks, and then a call for c ticks on the state after it and the rest of the buffer, are one call for a + c ticks
   pub play-add : (a c : ℕ) (out : List ℤ) → playOf bytes s a out .reply .answer .count ≡ a → playOf bytes s (a + c) out ≡ joined (roomOf (moduleOf bytes) a s) (playOf bytes s a out) (playOf bytes (playOf bytes s a out .reply .state) c (drop (roomOf (moduleOf bytes) a s) out))
@@ -100,29 +92,10 @@ module _ (bytes : List ℕ) (e : verdict (moduleOf bytes) .number ≡ 0) (b : By
       (outcome-is (playedFrom m s (a + c) out) _ _ _ (ap accepted (count-add a c out whole ∙ ap (λ (k : ℕ). k + countOf m c (ticked m a s) rest) (sym whole))) (state-add a c out whole) (out-add a c out whole))
 
 -- ---- 16 bits
-append-each : {A : Type 0} (P : A → Type 0) (d : A) (xs ys : List A) → ((j : ℕ) → P (getD xs j d)) → ((j : ℕ) → P (getD ys j d)) → (j : ℕ) → P (getD (xs ++ ys) j d)
-append-each P d [] ys f g j = g j
-append-each P d (x ∷ xs) ys f g zero = f 0
-append-each P d (x ∷ xs) ys f g (suc j) = append-each P d xs ys (λ i. f (suc i)) g j
-
 module _ (m : Module) (y : LegalLayout (m .layout)) (e : verdict m .number ≡ 0) (b : Bytes (m .bytes)) where
-  tick-fits : (song : Song) (w : Machine) → LegalVoiced m song (w .voices) → (j : ℕ) → mag (getD (frames (channelCount m) (samplesOf m) w (tickOf m song (soundings (w .voices)) .tick)) j (pos 0)) < half16
-  tick-fits song w l =
-      let vs = w .voices in
-      frames-fit (channelCount m) (samplesOf m) w (tickOf m song (soundings vs) .tick) (y .channels) (samples-bytes m (extentsOf m) b)
-      (λ i h. tick-is-legal m y e b song vs l .commands i (omega (arith, y .channels, state-run m y e b song vs l .sounding .long)) .volume)
-
-  ticks-fit : (k : ℕ) (song : Song) (w : Machine) → LegalVoiced m song (w .voices) → (j : ℕ) → mag (getD (rendered (mechanismOf m) w (ticksFrom m k song (soundings (w .voices)))) j (pos 0)) < half16
-  unfolding rendered ticksFrom
-  ticks-fit zero song w l = λ j. omega arith
-  ticks-fit (suc k) song w l =
-      let t = tickOf m song (soundings (w .voices)) in
-      let next = mechanismOf m .after w (t .tick) in
-      let h = carries true m y in
-      append-each (λ (z : ℤ). mag z < half16) (pos 0) (mechanismOf m .frames w (t .tick)) _ (tick-fits song w l)
-      (subst (λ (sounding : List ℕ). (j : ℕ) → mag (getD (rendered (mechanismOf m) next (ticksFrom m k (t .song) sounding)) j (pos 0)) < half16)
-      (after-soundings (mechanismOf m) (λ x. x .voices) m h y e b song w l) (ticks-fit k (t .song) next (tick-kept (mechanismOf m) (λ x. x .voices) m h y e b song w l)))
-
   -- no number of any number of ticks leaves 16 bits signed
   pub numbers-in-16 : (s : State) → length (s .voices) ≡ width → legalState m s ≡ true → (k j : ℕ) → mag (getD (numbersOf m k s) j (pos 0)) < half16
-  numbers-in-16 s long l k = ticks-fit k (s .song) (machineOf s) (state-has m y s long l .voiced)
+  numbers-in-16 s long l k =
+      let run = state-run m y e b (s .song) (s .voices) (state-has m y s long l .voiced) in
+      rendered-fit true (sampleCount m) (channelCount m) (samplesOf m) (y .channels) (samples-bytes m (extentsOf m) b) (machineOf s) (soundings (s .voices)) (run .sounding .long) (ticksOf m k s)
+      (runs-ticks m (accepted-has m e) b (y .channels) k (s .song) (soundings (s .voices)) run)

@@ -1,5 +1,5 @@
--- Playing on any machine: the ticks that are played fit (`fit-fits`), no larger number does (`fit-most`), n ticks and then j are n + j (`play-append`),
--- and a play in two parts is one play (`fit-parts`, `play-parts`).
+-- Playing on any machine: the ticks that are played fit (`fit-fits`), no larger number does (`fit-most`), the buffer begins with their numbers
+-- (`play-front`), n ticks and then j are n + j (`play-append`), and a play in two parts is one play (`fit-parts`, `play-parts`).
 -- Assumes nothing.
 use Prim.Native.Nat.{ℕ, zero, suc, _+_, _-_, _≤_, _<_, zero-le, suc-le-suc}
 use mathlib.Core.Path.{_≡_, refl, sym, ap, _∙_}
@@ -7,7 +7,7 @@ use mathlib.Core.List.{List, [], _∷_, _++_, append-assoc}
 use native.Mathlib.Nat.{zero-add, suc-add}
 use native.Mathlib.Omega.{arith}
 use lib.ListN.{length, take, drop, length-drop, length-append, take-append-drop}
-use lib.Seq.{drop-drop, length-take-le, take-append-add, take-append-seam}
+use lib.Seq.{take-append-seam, drop-drop, length-take-le, take-append-add, take-add}
 use lib.Dec.{leb}
 use borrow.Author.Tests.{le-leb, lt-leb, leb-true}
 use Rattle.laws.specs.Choice.{either}
@@ -60,6 +60,17 @@ module _ {A W T : Type 0} (m : Mechanism A W T) where
   unfolding rendered afterAll
   rendered-append w [] ts = refl
   rendered-append w (s ∷ ss) ts = ap (λ (xs : List A). m .frames w s ++ xs) (rendered-append (m .after w s) ss ts) ∙ sym (append-assoc (m .frames w s) (rendered m (m .after w s) ss) (rendered m (afterAll m (m .after w s) ss) ts))
+
+  -- the buffer begins with the numbers of the first j ticks, where at least so many fit
+  pub play-front : (w : W) (ts : List T) (buffer : List A) (j : ℕ) → j ≤ fit m (length buffer) w ts → take (length (rendered m w (take j ts))) (playOut m w ts buffer) ≡ rendered m w (take j ts)
+  unfolding playOut
+  play-front w ts buffer j h =
+      let n = fit m (length buffer) w ts in
+      let q : n ≡ j + (n - j) = omega arith in
+      let xs = rendered m w (take j ts) in
+      let ys = rendered m (afterAll m w (take j ts)) (take (n - j) (drop j ts)) in
+      let r : rendered m w (take n ts) ≡ xs ++ ys = ap (λ (i : ℕ). rendered m w (take i ts)) q ∙ (ap (rendered m w) (take-add j (n - j) ts) ∙ rendered-append w (take j ts) (take (n - j) (drop j ts))) in
+      rw (r, append-assoc) (take-append-seam xs _)
 
   pub play-none : (w : W) (buffer : List A) → playOut m w [] buffer ≡ buffer
   unfolding playOut rendered fit
@@ -124,13 +135,9 @@ module _ {A W T : Type 0} (m : Mechanism A W T) where
           ∙ fit-append (length buffer) w (take partCount ts) (drop partCount ts) inside
           ∙ rw (length-take-le partCount ts (fit-le (length part) w ts), length-drop (length partNumbers) buffer)
 
-      front : take (length partNumbers) (playOut m w ts part) ≡ partNumbers
-      unfolding playOut
-      front = take-append-seam partNumbers (drop (length partNumbers) part)
-
       -- and the buffers follow each other
       pub play-parts : playOut m w ts buffer ≡ take (length partNumbers) (playOut m w ts part) ++ playOut m partEnd (drop partCount ts) (drop (length partNumbers) buffer)
       play-parts =
           ap (λ (us : List T). playOut m w us buffer) (sym (take-append-drop partCount ts))
           ∙ play-append w (take partCount ts) (drop partCount ts) buffer inside
-          ∙ ap (λ (xs : List A). xs ++ playOut m partEnd (drop partCount ts) (drop (length partNumbers) buffer)) (sym front)
+          ∙ ap (λ (xs : List A). xs ++ playOut m partEnd (drop partCount ts) (drop (length partNumbers) buffer)) (sym (play-front w ts part partCount (omega arith)))
