@@ -20,6 +20,7 @@ use module::Module;
 
 pub use floats::{delivered, mono, side, Frame};
 pub use length::{tick_frames, tick_rest};
+pub use module::channels;
 pub use play::{change_page, fresh, play, play_floats, trace_tick, Trace};
 pub use quiet::{why_quiet, Cause};
 pub use records::{decode, encode, Command, Stream, Tick};
@@ -31,11 +32,11 @@ pub use touch::{touch, touch_burst};
 pub use voice::{growth, End, Voice};
 
 /// The numbers of a state where it is handed over: position, row, tick in row, delay, next
-/// position, next row, loop row, loop count, speed, tempo, remainder, clock, page; then for each
-/// channel latched sample, volume, period, target, slide memory, of its vibrato and then of its
-/// tremolo x, y, place, form (0 sine, 1 ramp, 2 square), and of its voice sounding sample, period,
-/// volume, index, fraction, stopped (0 or 1).
-pub const STATE_CELLS: usize = 89;
+/// position, next row, loop row, loop count, speed, tempo, remainder, clock, page; then for each of
+/// eight channels, however many the module has, latched sample, volume, period, target, slide
+/// memory, of its vibrato and then of its tremolo x, y, place, form (0 sine, 1 ramp, 2 square), and
+/// of its voice sounding sample, period, volume, index, fraction, stopped (0 or 1).
+pub const STATE_CELLS: usize = 165;
 
 /// What a call answers: the refusal's number and place, or number and place 0 and the count
 /// of ticks played, bytes written or touches answered, or the cause of quiet.

@@ -10,9 +10,16 @@ pub const TABLE: usize = 952;
 pub const TABLE_ENTRIES: usize = 128;
 pub const TAG: usize = 1080;
 pub const PATTERNS: usize = 1084;
-pub const PATTERN_BYTES: usize = 1024;
-pub const ROW_BYTES: usize = 16;
+pub const ROWS: usize = 64;
 pub const CELL_BYTES: usize = 4;
+/// Bytes of a channel in one pattern.
+pub const CHANNEL_BYTES: usize = ROWS * CELL_BYTES;
+
+/// A tag has as many bytes.
+pub const TAG_BYTES: usize = 4;
+/// The tags, each with the channels that it names.
+pub const TAGS: [(&[u8; TAG_BYTES], u32); 4] =
+    [(b"M.K.", 4), (b"4CHN", 4), (b"6CHN", 6), (b"8CHN", 8)];
 
 pub const LAST_SAMPLE: u32 = 31;
 pub const LOUDEST: u32 = 64;
@@ -55,6 +62,7 @@ pub struct Cell {
 pub struct Module<'a> {
     file: &'a [u8],
     samples: [Sample<'a>; SAMPLES],
+    pub channels: u32,
     pub song_length: u32,
 }
 
@@ -65,7 +73,9 @@ impl<'a> Module<'a> {
         check_table(file)?;
         check_volumes(file)?;
         check_loops(file)?;
-        let patterns_end = PATTERNS + PATTERN_BYTES * pattern_count(file);
+        let channels = channels(file);
+        let pattern_bytes = CHANNEL_BYTES * channels as usize;
+        let patterns_end = PATTERNS + pattern_bytes * pattern_count(file);
         if file.len() < patterns_end + all_sample_bytes(file) {
             return Err(Answer::refused(7, file.len()));
         }
@@ -73,6 +83,7 @@ impl<'a> Module<'a> {
         Ok(Module {
             file,
             samples: samples(file, patterns_end),
+            channels,
             song_length: u32::from(file[SONG_LENGTH]),
         })
     }
@@ -86,13 +97,25 @@ impl<'a> Module<'a> {
         }
     }
 
-    /// The cell of a channel (0 to 3) at a song position and row.
+    /// The cell of a channel, counted from 0, at a song position and row.
     pub fn cell(&self, position: u32, row: u32, channel: usize) -> Cell {
         let pattern = usize::from(self.file[TABLE + position as usize]);
-        let place =
-            PATTERNS + PATTERN_BYTES * pattern + ROW_BYTES * row as usize + CELL_BYTES * channel;
+        let rows_before = ROWS * pattern + row as usize;
+        let cells_before = self.channels as usize * rows_before + channel;
+        let place = PATTERNS + CELL_BYTES * cells_before;
         read_cell(&self.file[place..place + CELL_BYTES])
     }
+}
+
+/// The channels that the file's tag names; 0 where the file is too short for one or it is unknown.
+pub fn channels(file: &[u8]) -> u32 {
+    file.get(TAG..TAG + TAG_BYTES).map_or(0, tag_channels)
+}
+
+/// The channels that a tag names; 0 where it is unknown.
+pub fn tag_channels(tag: &[u8]) -> u32 {
+    let named = TAGS.iter().find(|(known, _)| *known == tag);
+    named.map_or(0, |&(_, channels)| channels)
 }
 
 /// 0, or a period from 113 to 856.
@@ -128,7 +151,7 @@ fn check_start(file: &[u8]) -> Result<(), Answer> {
     if file.len() < PATTERNS {
         return Err(Answer::refused(1, file.len()));
     }
-    if &file[TAG..TAG + 4] != b"M.K." {
+    if channels(file) == 0 {
         return Err(Answer::refused(2, TAG));
     }
     if file[SONG_LENGTH] == 0 || file[SONG_LENGTH] > 128 {

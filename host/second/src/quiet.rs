@@ -2,7 +2,7 @@
 
 use crate::module::Module;
 use crate::play::read;
-use crate::voice::{Voice, CHANNELS};
+use crate::voice::Voice;
 use crate::{Answer, STATE_CELLS};
 
 /// The causes in the order in which they are named, each with its number.
@@ -16,14 +16,14 @@ pub enum Cause {
     ItSounds = 6,
 }
 
-/// Names the first true cause of a channel, 1 to 4, for the next frame, with no tick work done
-/// first; the count is its number.
+/// Names the first true cause of one of the module's channels, from 1, for the next frame, with no
+/// tick work done first; the count is its number.
 pub fn why_quiet(file: &[u8], cells: &[u32; STATE_CELLS], channel: u32) -> Answer {
     let (module, state) = match read(file, cells) {
         Ok(read) => read,
         Err(refusal) => return refusal,
     };
-    if channel == 0 || channel > CHANNELS as u32 {
+    if channel == 0 || channel > module.channels {
         return Answer::refused(25, 0);
     }
     let voice = &state.voices[channel as usize - 1];

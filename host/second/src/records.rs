@@ -6,12 +6,17 @@ use crate::voice::CHANNELS;
 use crate::Answer;
 
 /// The first version, whose ticks have no remainder.
-pub const DRIFTING: u8 = 1;
-/// The version that translation writes.
-pub const STEADY: u8 = 2;
+const DRIFTING: u8 = 1;
+/// The version that translation writes: the first that says its channels.
+pub const COUNTED: u8 = 3;
+/// The channels of the versions before.
+const UNCOUNTED_CHANNELS: u32 = 4;
 
-/// Byte count, version and tick count.
-const STREAM_START: usize = 9;
+/// Where the version and, in the version that has it, the count of channels stand.
+const VERSION: usize = 4;
+const CHANNEL_COUNT: usize = 5;
+/// The bytes of the shortest stream: byte count, version and tick count.
+const SHORTEST: usize = 9;
 /// Bytes of one channel in a record.
 const COMMAND_BYTES: usize = 6;
 
@@ -40,10 +45,11 @@ pub const SILENT: Command = Command {
     offset: 0,
 };
 
-/// A stream's version, 1 or 2, and its ticks.
+/// A stream's version, 1 to 3, its channels and its ticks.
 #[derive(Clone, Debug, PartialEq, Eq, Default)]
 pub struct Stream {
     pub version: u8,
+    pub channels: u32,
     pub ticks: Vec<Tick>,
 }
 
@@ -69,6 +75,9 @@ impl Stream {
 /// The stream's bytes.
 pub fn encode(stream: &Stream) -> Vec<u8> {
     let mut bytes = vec![0, 0, 0, 0, stream.version];
+    if stream.version == COUNTED {
+        bytes.push(stream.channels as u8);
+    }
     bytes.extend_from_slice(&(stream.ticks.len() as u32).to_be_bytes());
     let mut before = [SILENT; CHANNELS];
     for tick in &stream.ticks {
@@ -103,20 +112,24 @@ fn encode_tick(tick: &Tick, before: &[Command; CHANNELS], bytes: &mut Vec<u8>) {
     }
 }
 
-/// The stream in these bytes, or its refusal 21, 22 or 23.
-pub fn decode(bytes: &[u8]) -> Result<Stream, Answer> {
-    if bytes.len() < STREAM_START || bytes.len() as u64 != 4 + number(bytes, 0) {
+/// The stream in these bytes for a module of so many channels, or its refusal 21, 22, 28 or 23.
+pub fn decode(bytes: &[u8], channels: u32) -> Result<Stream, Answer> {
+    if bytes.len() < SHORTEST || bytes.len() as u64 != 4 + number(bytes, 0) {
         return Err(Answer::refused(21, bytes.len()));
     }
-    let version = bytes[4];
-    if version != DRIFTING && version != STEADY {
-        return Err(Answer::refused(22, 4));
+    let version = bytes[VERSION];
+    if !(DRIFTING..=COUNTED).contains(&version) {
+        return Err(Answer::refused(22, VERSION));
+    }
+    let count = tick_count(version);
+    if bytes.len() < count + 4 || stated_channels(bytes) != channels {
+        return Err(Answer::refused(28, VERSION));
     }
     let mut ticks = Vec::new();
     let mut registers = [SILENT; CHANNELS];
-    let mut place = STREAM_START;
-    for _ in 0..number(bytes, 5) {
-        let Some((tick, length)) = decode_tick(&bytes[place..], &registers) else {
+    let mut place = count + 4;
+    for _ in 0..number(bytes, count) {
+        let Some((tick, length)) = decode_tick(&bytes[place..], &registers, channels) else {
             return Err(Answer::refused(23, place));
         };
         ticks.push(tick);
@@ -126,7 +139,29 @@ pub fn decode(bytes: &[u8]) -> Result<Stream, Answer> {
     if place < bytes.len() {
         return Err(Answer::refused(23, place));
     }
-    Ok(Stream { version, ticks })
+    Ok(Stream {
+        version,
+        channels,
+        ticks,
+    })
+}
+
+/// Where a version's tick count stands.
+fn tick_count(version: u8) -> usize {
+    if version == COUNTED {
+        CHANNEL_COUNT + 1
+    } else {
+        VERSION + 1
+    }
+}
+
+/// The channels that a stream is for.
+fn stated_channels(bytes: &[u8]) -> u32 {
+    if bytes[VERSION] == COUNTED {
+        bytes[CHANNEL_COUNT].into()
+    } else {
+        UNCOUNTED_CHANNELS
+    }
 }
 
 /// The four-byte number at a place.
@@ -139,10 +174,10 @@ fn number(bytes: &[u8], place: usize) -> u64 {
 }
 
 /// The record at the beginning of `bytes` and its length, or nothing if it is bad.
-fn decode_tick(bytes: &[u8], before: &[Command; CHANNELS]) -> Option<(Tick, usize)> {
-    let mask = *bytes.first()?;
+fn decode_tick(bytes: &[u8], before: &[Command; CHANNELS], channels: u32) -> Option<(Tick, usize)> {
+    let mask = u32::from(*bytes.first()?);
     let tempo = u32::from(*bytes.get(1)?);
-    if mask > 15 || tempo < 32 {
+    if mask >> channels != 0 || tempo < 32 {
         return None;
     }
     let mut tick = Tick {

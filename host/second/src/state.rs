@@ -1,4 +1,4 @@
-//! The player's state, its 89 cells and which states are legal.
+//! The player's state, its cells and which states are legal.
 
 use crate::module::{legal_period, Module, LAST_SAMPLE, LOUDEST};
 use crate::voice::{Voice, CHANNELS};
@@ -24,6 +24,20 @@ pub struct Channel {
     pub tremolo: Wave,
 }
 
+impl Channel {
+    fn fresh() -> Channel {
+        Channel {
+            latched: 0,
+            volume: 0,
+            period: 0,
+            target: 0,
+            memory: 0,
+            vibrato: Wave::fresh(),
+            tremolo: Wave::fresh(),
+        }
+    }
+}
+
 #[derive(Clone, Copy, Debug, PartialEq, Eq)]
 pub struct State {
     pub position: u32,
@@ -47,15 +61,6 @@ pub struct State {
 
 impl State {
     pub fn fresh() -> State {
-        let channel = Channel {
-            latched: 0,
-            volume: 0,
-            period: 0,
-            target: 0,
-            memory: 0,
-            vibrato: Wave::fresh(),
-            tremolo: Wave::fresh(),
-        };
         State {
             position: 0,
             row: 0,
@@ -70,7 +75,7 @@ impl State {
             remainder: 0,
             clock: 0,
             page: 0,
-            channels: [channel; CHANNELS],
+            channels: [Channel::fresh(); CHANNELS],
             voices: [Voice::fresh(); CHANNELS],
         }
     }
@@ -145,15 +150,17 @@ impl State {
         if self.tick >= self.speed * (1 + self.delay) {
             return false;
         }
-        for channel in 0..CHANNELS {
-            if !legal_channel(&self.channels[channel]) {
-                return false;
-            }
-            if !legal_voice(&self.voices[channel], module) {
-                return false;
-            }
+        (0..CHANNELS).all(|channel| self.legal_at(channel, module))
+    }
+
+    /// Whether a channel and its voice are legal; past the module's channels they are as fresh.
+    fn legal_at(&self, channel: usize, module: &Module) -> bool {
+        let (own, voice) = (&self.channels[channel], &self.voices[channel]);
+        if channel < module.channels as usize {
+            legal_channel(own) && legal_voice(voice, module)
+        } else {
+            *own == Channel::fresh() && *voice == Voice::fresh()
         }
-        true
     }
 }
 

@@ -2,7 +2,7 @@
 
 use crate::module::Module;
 use crate::output::{one_or_two, Floats, Numbers, Output};
-use crate::records::{decode, encode, Command, Stream, Tick, SILENT, STEADY};
+use crate::records::{decode, encode, Command, Stream, Tick, COUNTED, SILENT};
 use crate::state::State;
 use crate::voice::{frames, Voice, CHANNELS};
 use crate::work::{finish, work};
@@ -52,7 +52,8 @@ pub fn translate(file: &[u8], ticks: u32, room: &mut [u8]) -> Answer {
         return Answer::refused(11, 0);
     }
     let bytes = encode(&Stream {
-        version: STEADY,
+        version: COUNTED,
+        channels: module.channels,
         ticks: module_ticks(&module, ticks),
     });
     if room.len() < bytes.len() {
@@ -74,7 +75,7 @@ pub fn play_stream_from(bytes: &[u8], file: &[u8], from: u32, out: &mut [i16]) -
         Ok(module) => module,
         Err(refusal) => return refusal,
     };
-    match decode(bytes) {
+    match decode(bytes, module.channels) {
         Ok(stream) => board(&module, &stream, from, &mut Numbers::new(out)),
         Err(refusal) => refusal,
     }
@@ -111,7 +112,7 @@ pub fn play_stream_floats_from(
     if !one_or_two(sides) {
         return Answer::refused(24, 0);
     }
-    let stream = match decode(bytes) {
+    let stream = match decode(bytes, module.channels) {
         Ok(stream) => stream,
         Err(refusal) => return refusal,
     };

@@ -2,7 +2,8 @@
 
 use crate::module::Module;
 
-pub const CHANNELS: usize = 4;
+/// The channels of a state, of which a module has the first four, six or all.
+pub const CHANNELS: usize = 8;
 
 #[derive(Clone, Copy, Debug, PartialEq, Eq)]
 pub struct Voice {
@@ -101,22 +102,34 @@ pub fn growth(period: u32) -> u32 {
     (35_468_946 * 65_536 / (480_000 * u64::from(period))) as u32
 }
 
+/// The count of channels with which a side is twice its sum.
+const DOUBLED: u32 = 4;
+
 /// The frames of one tick: each call gives the next one, left and right, and moves the voices.
 pub fn frames<'a>(
     module: &'a Module,
     voices: &'a mut [Voice; CHANNELS],
 ) -> impl FnMut() -> (i16, i16) + 'a {
     let growths = voices.map(|voice| growth(voice.period));
+    let times = if module.channels == DOUBLED { 2 } else { 1 };
     move || {
-        let mut given = [0; CHANNELS];
-        for channel in 0..CHANNELS {
-            given[channel] = voices[channel].gives(module);
+        let (mut left, mut right) = (0, 0);
+        for channel in 0..module.channels as usize {
+            let given = times * voices[channel].gives(module);
+            if is_left(channel) {
+                left += given;
+            } else {
+                right += given;
+            }
             voices[channel].step(module, growths[channel]);
         }
-        let left = 2 * (given[0] + given[3]);
-        let right = 2 * (given[1] + given[2]);
         (left as i16, right as i16)
     }
+}
+
+/// Whether a channel, counted from 0, is on the left: the first and the last of each four.
+fn is_left(channel: usize) -> bool {
+    matches!(channel % 4, 0 | 3)
 }
 
 /// A frame of a tick in which a voice comes to its sample's end.

@@ -35,7 +35,7 @@ pub fn work(module: &Module, state: &mut State) -> Starts {
         row_work(module, state, &mut starts);
     }
     let t = state.tick % state.speed;
-    for channel in 0..CHANNELS {
+    for channel in 0..module.channels as usize {
         let cell = module.cell(state.position, state.row, channel);
         if t > 0 {
             tick_effect(module, state, channel, &cell, t, &mut starts);
@@ -69,7 +69,7 @@ fn row_work(module: &Module, state: &mut State, starts: &mut Starts) {
         row: None,
         jump: None,
     };
-    for channel in 0..CHANNELS {
+    for channel in 0..module.channels as usize {
         let cell = module.cell(state.position, state.row, channel);
         note(module, state, channel, &cell, starts);
         row_effect(module, state, channel, &cell, starts);

@@ -61,7 +61,7 @@ fn wrong_length(random: &mut Random, records: &[Vec<u8>]) -> Damaged {
 fn wrong_version(random: &mut Random, records: &[Vec<u8>]) -> Damaged {
     let count = records.len() as u32 + random.below(2);
     let mut stream = assemble(random, records, count);
-    stream[4] = random.pick(&[0, 3, 4, 128, 255]);
+    stream[4] = random.pick(&[0, 4, 5, 128, 255]);
     Damaged {
         bytes: stream,
         number: 22,

@@ -8,11 +8,9 @@ use crate::module::Cell;
 pub fn breaking(seed: u64) -> Vec<u8> {
     let mut random = Random::new(seed);
     let mut draft = draft(&mut random, Size::Small);
-    for pattern in &mut draft.patterns {
-        for row in pattern.chunks_exact_mut(4) {
-            if random.chance(75) {
-                fill_row(&mut random, row);
-            }
+    for row in draft.rows() {
+        if random.chance(75) {
+            fill_row(&mut random, row);
         }
     }
     draft.bytes()
@@ -20,7 +18,7 @@ pub fn breaking(seed: u64) -> Vec<u8> {
 
 fn fill_row(random: &mut Random, row: &mut [Cell]) {
     for _ in 0..random.pick(&[1, 1, 2]) {
-        let cell = &mut row[random.below(4) as usize];
+        let cell = cells::any(random, row);
         cell.effect = 0xD;
         cell.parameter = if random.chance(60) {
             past_nine(random)

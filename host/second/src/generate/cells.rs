@@ -103,6 +103,11 @@ pub fn put_effect(cell: &mut Cell, code: u32) {
     cell.parameter = code % 256;
 }
 
+/// One of a row's cells.
+pub fn any<'a>(random: &mut Random, row: &'a mut [Cell]) -> &'a mut Cell {
+    &mut row[random.below(row.len() as u32) as usize]
+}
+
 pub fn sample(random: &mut Random, palette: &Palette) -> u32 {
     if random.chance(85) {
         random.pick(&palette.favourites)

@@ -2,9 +2,10 @@
 
 use super::draft::Draft;
 use super::modules::{self, draft, Size};
-use super::{Damaged, Random};
+use super::{cells, Damaged, Random};
 use crate::module::{
-    CELL_BYTES, HEADERS, HEADER_BYTES, PATTERNS, SAMPLES, SONG_LENGTH, TABLE, TABLE_ENTRIES, TAG,
+    CELL_BYTES, HEADERS, HEADER_BYTES, PATTERNS, ROWS, SAMPLES, SONG_LENGTH, TABLE, TABLE_ENTRIES,
+    TAG,
 };
 
 /// Any file for the reader: valid, at the edge, aimed at a refusal, or damaged at random.
@@ -108,11 +109,13 @@ pub fn at_edge(seed: u64) -> Vec<u8> {
             header.start = random.pick(&[0, header.length, header.length + 1, 65_535]);
         }
     }
-    for pattern in &mut draft.patterns {
-        for _ in 0..8 {
-            let cell = &mut pattern[random.pick(&[0, 1, 254, 255])];
-            cell.period = random.pick(&[0, 113, 856]);
-            cell.sample = random.pick(&[0, 15, 16, 31]);
+    for (number, row) in draft.rows().enumerate() {
+        if [0, ROWS - 1].contains(&(number % ROWS)) {
+            for _ in 0..4 {
+                let cell = cells::any(&mut random, row);
+                cell.period = random.pick(&[0, 113, 856]);
+                cell.sample = random.pick(&[0, 15, 16, 31]);
+            }
         }
     }
     draft.bytes()
@@ -188,7 +191,7 @@ fn add_fault(random: &mut Random, file: &mut [u8], number: u64) -> usize {
 
 fn break_tag(random: &mut Random, file: &mut [u8]) -> usize {
     let tags: [&[u8]; 8] = [
-        b"M!K!", b"FLT4", b"4CHN", b"m.k.", b"M.K,", b"N.K.", b"M.L.", b"M/K.",
+        b"M!K!", b"FLT4", b"2CHN", b"m.k.", b"M.K,", b"N.K.", b"M.L.", b"M/K.",
     ];
     file[TAG..TAG + 4].copy_from_slice(random.pick(&tags));
     TAG

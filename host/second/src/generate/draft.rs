@@ -1,8 +1,12 @@
 //! A module under construction, and the bytes of its file.
 
-use crate::module::{Cell, CELL_BYTES, PATTERNS, PATTERN_BYTES, TABLE_ENTRIES};
+use crate::module::{
+    tag_channels, Cell, CELL_BYTES, CHANNEL_BYTES, PATTERNS, ROWS, TABLE_ENTRIES, TAG_BYTES,
+};
+use crate::voice::CHANNELS;
 
-pub const CELLS: usize = 256;
+/// Cells of a pattern: rows of eight, of which the file gets those of the tag's channels.
+pub const CELLS: usize = ROWS * CHANNELS;
 
 /// One sample's header, lengths and starts in words.
 #[derive(Clone, Debug)]
@@ -22,6 +26,8 @@ pub struct Draft {
     pub song_length: u8,
     pub ignored: u8,
     pub table: [u8; TABLE_ENTRIES],
+    /// One of the accepted tags.
+    pub tag: [u8; TAG_BYTES],
     pub patterns: Vec<[Cell; CELLS]>,
     /// All samples' bytes in order.
     pub sample_bytes: Vec<u8>,
@@ -29,8 +35,13 @@ pub struct Draft {
 }
 
 impl Draft {
-    /// One empty pattern, played once, and no samples.
+    /// One empty pattern of four channels, played once, and no samples.
     pub fn empty() -> Draft {
+        Draft::tagged(b"M.K.")
+    }
+
+    /// The same with another tag and its channels.
+    pub fn tagged(tag: &[u8; TAG_BYTES]) -> Draft {
         let header = Header {
             name: [0; 22],
             length: 0,
@@ -45,10 +56,31 @@ impl Draft {
             song_length: 1,
             ignored: 127,
             table: [0; TABLE_ENTRIES],
+            tag: *tag,
             patterns: vec![[Cell::default(); CELLS]],
             sample_bytes: Vec::new(),
             extra: Vec::new(),
         }
+    }
+
+    /// The channels that the tag names.
+    pub fn channels(&self) -> usize {
+        tag_channels(&self.tag) as usize
+    }
+
+    /// The rows of all patterns in the file's order, each with the cells that the file gets.
+    pub fn rows(&mut self) -> impl Iterator<Item = &mut [Cell]> {
+        let channels = self.channels();
+        let rows = self.patterns.as_flattened_mut().chunks_exact_mut(CHANNELS);
+        rows.map(move |row| &mut row[..channels])
+    }
+
+    /// The row that is played first.
+    pub fn first_row(&mut self) -> &mut [Cell] {
+        let first = usize::from(self.table[0]);
+        self.rows()
+            .nth(ROWS * first)
+            .expect("a pattern of the table")
     }
 
     /// Adds an unlooped sample with these bytes; samples are added in the order of their numbers.
@@ -77,7 +109,7 @@ impl Draft {
         period: u32,
         effect: u32,
     ) {
-        self.patterns[pattern][4 * row + channel] = Cell {
+        self.patterns[pattern][CHANNELS * row + channel] = Cell {
             sample,
             period,
             effect: effect / 256,
@@ -86,11 +118,9 @@ impl Draft {
     }
 
     pub fn bytes(&self) -> Vec<u8> {
+        let pattern_bytes = CHANNEL_BYTES * self.channels() * self.patterns.len();
         let mut file = Vec::with_capacity(
-            PATTERNS
-                + PATTERN_BYTES * self.patterns.len()
-                + self.sample_bytes.len()
-                + self.extra.len(),
+            PATTERNS + pattern_bytes + self.sample_bytes.len() + self.extra.len(),
         );
         file.extend_from_slice(&self.title);
         for header in &self.headers {
@@ -102,9 +132,9 @@ impl Draft {
         }
         file.extend_from_slice(&[self.song_length, self.ignored]);
         file.extend_from_slice(&self.table);
-        file.extend_from_slice(b"M.K.");
-        for pattern in &self.patterns {
-            for cell in pattern {
+        file.extend_from_slice(&self.tag);
+        for row in self.patterns.as_flattened().chunks_exact(CHANNELS) {
+            for cell in &row[..self.channels()] {
                 file.extend_from_slice(&cell_bytes(cell));
             }
         }

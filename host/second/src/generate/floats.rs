@@ -63,12 +63,13 @@ pub fn opposite(seed: u64) -> Vec<u8> {
     let words = bytes.len() as u32 / 2;
     draft.add_looped(1, 64, 0, words, &bytes);
     draft.add_looped(2, 64, 0, words, &opposites);
-    for row in draft.patterns[0].chunks_exact_mut(4) {
+    for row in draft.rows() {
         if random.chance(60) {
             fill_row(&mut random, row);
         }
     }
-    draft.put(0, 0, 3, 1, 113, 0xF00 + random.between(1, 3));
+    let last = draft.channels() - 1;
+    draft.put(0, 0, last, 1, 113, 0xF00 + random.between(1, 3));
     draft.bytes()
 }
 
@@ -86,7 +87,8 @@ fn loud_bytes(random: &mut Random) -> Vec<u8> {
     bytes
 }
 
-/// Notes at one period and one volume: sides that are opposite, equal, silent, or anything.
+/// Notes at one period and one volume: sides that are opposite, equal, silent, or anything. Each
+/// four channels have the same samples, and the same sides.
 fn fill_row(random: &mut Random, row: &mut [Cell]) {
     let samples = match random.below(4) {
         0 | 1 => [1, 2, 2, 1],
@@ -95,7 +97,7 @@ fn fill_row(random: &mut Random, row: &mut [Cell]) {
     };
     let period = cells::period(random);
     let volume = random.edge_or(&[0, 1, 64, 64], 0, 64);
-    for (cell, sample) in row.iter_mut().zip(samples) {
+    for (cell, sample) in row.iter_mut().zip(samples.into_iter().cycle()) {
         *cell = with_effect(sample, period, 0xC00 + volume);
     }
 }

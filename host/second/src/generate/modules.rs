@@ -1,9 +1,9 @@
 //! Valid modules that use every effect, in combination and at the edges.
 
-use super::cells::{self, Palette};
+use super::cells::{self, put_effect, Palette};
 use super::draft::{Draft, Header, CELLS};
 use super::{scenes, Random};
-use crate::module::{Cell, TABLE_ENTRIES};
+use crate::module::{Cell, ROWS, TABLE_ENTRIES};
 
 /// How large a generated module may be.
 #[derive(Clone, Copy, Debug, PartialEq, Eq)]
@@ -34,10 +34,8 @@ pub fn draft(random: &mut Random, size: Size) -> Draft {
         favourites,
         song_length: draft.song_length.into(),
     };
-    draft.patterns.clear();
-    for _ in 0..patterns {
-        draft.patterns.push(pattern(random, &palette));
-    }
+    draft.patterns = vec![[Cell::default(); CELLS]; patterns];
+    fill_rows(random, &mut draft, &palette);
     open_row(random, &mut draft);
     if random.chance(30) {
         for _ in 0..random.edge_or(&[1, 2, 3], 1, 40) {
@@ -147,29 +145,26 @@ fn fill_table(random: &mut Random, draft: &mut Draft, patterns: usize) {
     draft.table[raising] = patterns as u8 - 1;
 }
 
-fn pattern(random: &mut Random, palette: &Palette) -> [Cell; CELLS] {
-    let mut pattern = [Cell::default(); CELLS];
-    for cell in &mut pattern {
-        *cell = cells::cell(random, palette);
-    }
-    for row in pattern.chunks_exact_mut(4) {
+fn fill_rows(random: &mut Random, draft: &mut Draft, palette: &Palette) {
+    for row in draft.rows() {
+        for cell in row.iter_mut() {
+            *cell = cells::cell(random, palette);
+        }
         if random.chance(palette.mix.scenes) {
             scenes::fill(random, palette, row);
         }
     }
-    if random.chance(40) {
-        scenes::nested_loops(random, &mut pattern[4 * 63..]);
+    for last in draft.rows().skip(ROWS - 1).step_by(ROWS) {
+        if random.chance(40) {
+            scenes::nested_loops(random, last);
+        }
     }
-    pattern
 }
 
 /// Often begins the song fast, so that few ticks see many rows.
 fn open_row(random: &mut Random, draft: &mut Draft) {
     if random.chance(70) {
-        let first = usize::from(draft.table[0]);
-        let channel = random.below(4) as usize;
-        let cell = &mut draft.patterns[first][channel];
-        cell.effect = 0xF;
-        cell.parameter = random.pick(&[0, 1, 1, 2, 2, 3]);
+        let code = 0xF00 + random.pick(&[0, 1, 1, 2, 2, 3]);
+        put_effect(cells::any(random, draft.first_row()), code);
     }
 }

@@ -26,7 +26,7 @@ pub fn quiet_state(seed: u64, file: &[u8]) -> [u32; STATE_CELLS] {
     let mut random = Random::new(seed);
     let mut cells = legal_state(random.number(), file);
     let mut state = State::read(&cells, &module).expect("a legal state");
-    for channel in 0..CHANNELS {
+    for channel in 0..module.channels as usize {
         quiet_voice(&mut random, &module, &mut state.voices[channel]);
         // A channel that says otherwise than its voice.
         if random.chance(50) {
@@ -68,12 +68,12 @@ fn index(random: &mut Random, sample: &Sample, index: u32) -> u32 {
     }
 }
 
-/// A channel's number, mostly 1 to 4.
+/// A channel's number, mostly 1 to 8.
 pub fn channel(seed: u64) -> u32 {
     let mut random = Random::new(seed);
     if random.chance(80) {
-        random.between(1, 4)
+        random.between(1, CHANNELS as u32)
     } else {
-        random.pick(&[0, 5, 6, 256, 257, 1 << 31, u32::MAX - 1, u32::MAX])
+        random.pick(&[0, 9, 10, 256, 257, 1 << 31, u32::MAX - 1, u32::MAX])
     }
 }

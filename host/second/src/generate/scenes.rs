@@ -47,13 +47,12 @@ fn jump_and_break(random: &mut Random, palette: &Palette, row: &mut [Cell]) {
 /// E6 beside B or D.
 fn loop_and_break(random: &mut Random, palette: &Palette, row: &mut [Cell]) {
     nested_loops(random, row);
-    let channel = random.below(4) as usize;
     let code = if random.chance(50) {
         cells::break_to(random)
     } else {
         cells::jump(random, palette.song_length)
     };
-    put_effect(&mut row[channel], code);
+    put_effect(cells::any(random, row), code);
 }
 
 /// EE on several channels, the last one 0 at times, with a change of speed.
@@ -64,8 +63,8 @@ fn many_delays(random: &mut Random, row: &mut [Cell]) {
         }
     }
     if random.chance(60) {
-        let channel = random.below(4) as usize;
-        put_effect(&mut row[channel], cells::speed(random));
+        let code = cells::speed(random);
+        put_effect(cells::any(random, row), code);
     }
 }
 
@@ -77,8 +76,8 @@ fn delayed_effects(random: &mut Random, palette: &Palette, row: &mut [Cell]) {
         let code = if random.chance(50) { code } else { own };
         *cell = with_effect(cells::sample(random, palette), cells::period(random), code);
     }
-    let channel = random.below(4) as usize;
-    put_effect(&mut row[channel], 0xEE0 + random.between(1, 3));
+    let code = 0xEE0 + random.between(1, 3);
+    put_effect(cells::any(random, row), code);
 }
 
 /// 9 with and without a period, at, before and past the end.
@@ -154,8 +153,8 @@ fn waves(random: &mut Random, palette: &Palette, row: &mut [Cell]) {
 /// Waves that go on in each repetition under EE.
 fn delayed_waves(random: &mut Random, palette: &Palette, row: &mut [Cell]) {
     waves(random, palette, row);
-    let channel = random.below(4) as usize;
-    put_effect(&mut row[channel], 0xEE0 + random.between(1, 3));
+    let code = 0xEE0 + random.between(1, 3);
+    put_effect(cells::any(random, row), code);
 }
 
 fn arpeggios(random: &mut Random, palette: &Palette, row: &mut [Cell]) {

@@ -15,7 +15,7 @@ pub fn legal_state(seed: u64, file: &[u8]) -> [u32; STATE_CELLS] {
     if random.chance(90) {
         fill_song(&mut random, &mut state, module.song_length);
     }
-    for channel in 0..4 {
+    for channel in 0..module.channels as usize {
         if random.chance(90) {
             state.channels[channel] = legal_channel(&mut random);
         }
@@ -33,7 +33,7 @@ pub fn illegal_state(seed: u64, file: &[u8]) -> [u32; STATE_CELLS] {
     let module = accepted(file);
     let mut random = Random::new(seed);
     let mut cells = legal_state(random.number(), file);
-    let channel = random.below(4) as usize;
+    let channel = random.below(module.channels) as usize;
     let own = &mut cells[SONG_CELLS + CHANNEL_CELLS * channel..][..CHANNEL_CELLS];
     match random.below(4) {
         0 => break_channel(&mut random, own),

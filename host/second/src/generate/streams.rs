@@ -26,6 +26,15 @@ pub fn legal_stream(seed: u64, file: &[u8]) -> Vec<u8> {
     assemble(&mut random, &records, records.len() as u32)
 }
 
+/// The same ticks of a translated stream, which is of version 3, in an older version.
+pub fn older(translated: &[u8], version: u8) -> Vec<u8> {
+    let mut stream = translated.to_vec();
+    stream.remove(5);
+    stream[4] = version;
+    fix_length(&mut stream);
+    stream
+}
+
 /// A good stream damaged without aim; it may still be accepted.
 pub fn damaged_stream(seed: u64, good: &[u8]) -> Vec<u8> {
     let mut random = Random::new(seed);

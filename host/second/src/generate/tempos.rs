@@ -1,8 +1,7 @@
 //! Modules for the lengths of ticks: one tempo throughout, or changes in every place of a row.
 
 use super::modules::{draft, Size};
-use super::Random;
-use crate::module::Cell;
+use super::{cells, Random};
 
 /// The least parameter of F that sets the tempo.
 const LOWEST_TEMPO: u32 = 32;
@@ -11,13 +10,13 @@ const LOWEST_TEMPO: u32 = 32;
 pub fn steady(seed: u64, tempo: u32) -> Vec<u8> {
     let mut random = Random::new(seed);
     let mut draft = draft(&mut random, Size::Small);
-    for cell in draft.patterns.iter_mut().flatten() {
+    for cell in draft.rows().flatten() {
         if cell.effect == 0xF && cell.parameter >= LOWEST_TEMPO {
             cell.parameter = tempo;
         }
     }
-    let first = usize::from(draft.table[0]);
-    set(&mut draft.patterns[first][random.below(4) as usize], tempo);
+    let cell = cells::any(&mut random, draft.first_row());
+    cells::put_effect(cell, 0xF00 + tempo);
     draft.bytes()
 }
 
@@ -31,26 +30,17 @@ pub fn changing(seed: u64) -> Vec<u8> {
         random.pick(&[254, 33, 32]),
         random.between(LOWEST_TEMPO, 255),
     ];
-    for row in draft
-        .patterns
-        .iter_mut()
-        .flat_map(|p| p.chunks_exact_mut(4))
-    {
+    for row in draft.rows() {
         if random.chance(40) {
             continue;
         }
         for cell in row {
             if random.chance(50) {
-                set(cell, random.pick(&tempos));
+                cells::put_effect(cell, 0xF00 + random.pick(&tempos));
             } else if cell.effect == 0xF {
                 cell.parameter = random.between(1, 3);
             }
         }
     }
     draft.bytes()
-}
-
-fn set(cell: &mut Cell, tempo: u32) {
-    cell.effect = 0xF;
-    cell.parameter = tempo;
 }

@@ -3,9 +3,8 @@
 use super::cells::{self, put_effect, with_effect};
 use super::draft::Draft;
 use super::Random;
-use crate::module::{Cell, HIGHEST_PERIOD, LOUDEST, LOWEST_PERIOD};
+use crate::module::{Cell, HIGHEST_PERIOD, LOUDEST, LOWEST_PERIOD, ROWS};
 
-const ROWS: usize = 64;
 /// Samples that are there; all are looped.
 const SAMPLES: u32 = 4;
 /// The most by which vibrato moves a period.
@@ -43,17 +42,17 @@ pub fn wavering(seed: u64) -> Vec<u8> {
     let mut random = Random::new(seed);
     let mut draft = Draft::empty();
     add_samples(&mut random, &mut draft);
-    for channel in 0..4 {
-        for (row, cell) in column(&mut random).into_iter().enumerate() {
-            draft.patterns[0][4 * row + channel] = cell;
+    for channel in 0..draft.channels() {
+        for (row, cell) in draft.rows().zip(column(&mut random)) {
+            row[channel] = cell;
         }
     }
-    for row in draft.patterns[0].chunks_exact_mut(4) {
+    for row in draft.rows() {
         if random.chance(15) {
             set_flow(&mut random, row);
         }
     }
-    open_row(&mut random, &mut draft.patterns[0][..4]);
+    open_row(&mut random, draft.first_row());
     draft.bytes()
 }
 
@@ -159,8 +158,7 @@ fn set_flow(random: &mut Random, row: &mut [Cell]) {
     } else {
         0xEE0 + random.pick(&[0, 1, 1, 2, 3])
     };
-    let channel = random.below(4) as usize;
-    put_effect(&mut row[channel], code);
+    put_effect(cells::any(random, row), code);
 }
 
 fn speed(random: &mut Random) -> u32 {

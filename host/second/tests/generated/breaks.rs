@@ -1,5 +1,6 @@
 //! Breaks: the row that follows, held against the row's bytes.
 
+use crate::common;
 use second::generate::breaks::breaking;
 use second::{fresh, trace_tick};
 
@@ -7,9 +8,7 @@ const NEXT_ROW: usize = 5;
 
 /// The parameter of a row's last D.
 fn last_break(file: &[u8], position: u32, row: u32) -> Option<u32> {
-    let pattern = usize::from(file[952 + position as usize]);
-    let place = 1_084 + 1_024 * pattern + 16 * row as usize;
-    let cells = file[place..place + 16].chunks_exact(4);
+    let cells = common::row(file, position, row).chunks_exact(4);
     let breaks = cells.filter(|cell| cell[2] % 16 == 0xD);
     breaks.map(|cell| u32::from(cell[3])).next_back()
 }

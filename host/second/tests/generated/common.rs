@@ -2,7 +2,7 @@
 
 use second::generate::modules::{module, Size};
 use second::generate::Random;
-use second::{Answer, Stream, STATE_CELLS};
+use second::{channels, translate, Answer, Stream, STATE_CELLS};
 
 pub const UNTOUCHED: i16 = 12_345;
 
@@ -36,6 +36,24 @@ pub fn file(seed: u64) -> Vec<u8> {
         _ => Size::Small,
     };
     module(seed, size)
+}
+
+/// The stream of a module's first ticks.
+pub fn translated(file: &[u8], ticks: u32) -> Vec<u8> {
+    // Ten bytes, and for each tick two and six a channel at most.
+    let mut room = vec![0; 10 + 50 * ticks as usize];
+    let answer = translate(file, ticks, &mut room);
+    assert_eq!(answer.number, 0, "the file is accepted");
+    room.truncate(answer.count as usize);
+    room
+}
+
+/// The bytes of a row's cells.
+pub fn row(file: &[u8], position: u32, row: u32) -> &[u8] {
+    let row_bytes = 4 * channels(file) as usize;
+    let pattern = usize::from(file[952 + position as usize]);
+    let place = 1_084 + row_bytes * (64 * pattern + row as usize);
+    &file[place..place + row_bytes]
 }
 
 /// A length for the buffer of a play: none, tiny, odd, exact, one short or larger.

@@ -3,11 +3,11 @@
 use crate::common::*;
 use second::generate::floats::{opposite, record, sides, Record};
 use second::generate::states::{illegal_state, legal_state};
-use second::generate::streams::first_tick;
+use second::generate::streams::{first_tick, older};
 use second::generate::Random;
 use second::{
-    decode, fresh, play, play_floats, play_stream_floats, play_stream_floats_from,
-    play_stream_from, translate, Answer,
+    channels, decode, fresh, play, play_floats, play_stream_floats, play_stream_floats_from,
+    play_stream_from, Answer,
 };
 
 /// What an untouched float holds: a NaN that signals.
@@ -118,9 +118,7 @@ fn the_boards_floats_and_record_are_the_players() {
         let ticks = random.below(12);
         let sides = random.pick(&[1, 2]);
         let room = buffer_length(&mut random, 9_600);
-        let mut stream = vec![0; 9 + 26 * ticks as usize];
-        let bytes = translate(&file, ticks, &mut stream).count as usize;
-        let board = board(&stream[..bytes], &file, sides, room, seed);
+        let board = board(&translated(&file, ticks), &file, sides, room, seed);
         let player = player(&file, &mut fresh(), ticks, sides, room, seed);
         assert!(board == player, "seed {seed}");
     }
@@ -132,17 +130,17 @@ fn from_any_tick_floats_are_the_numbers_divided() {
         let mut random = Random::new(seed);
         let file = any_module(seed);
         let ticks = random.below(12);
-        let mut stream = vec![0; 9 + 26 * ticks as usize];
-        let bytes = translate(&file, ticks, &mut stream).count as usize;
-        stream.truncate(bytes);
-        stream[4] = random.pick(&[1, 2]);
+        let mut stream = translated(&file, ticks);
+        if channels(&file) == 4 && random.chance(50) {
+            stream = older(&stream, random.pick(&[1, 2]));
+        }
         let from = first_tick(seed, ticks);
         let sides = random.pick(&[1, 2]);
         let frames = buffer_length(&mut random, 4_800);
         let room = sides as usize * frames + random.below(sides) as usize;
         let mut numbers = vec![0; 2 * frames];
         let answer = play_stream_from(&stream, &file, from, &mut numbers);
-        let lengths = stream_lengths(&decode(&stream).expect("translated"));
+        let lengths = stream_lengths(&decode(&stream, channels(&file)).expect("translated"));
         let played = lengths.iter().skip(from as usize);
         let filled: usize = played.take(answer.count as usize).sum();
         let expected = divided(answer, &numbers[..2 * filled], sides, room, seed);

@@ -1,9 +1,9 @@
 //! Tick lengths: no drift at one tempo, and remainders over changes of tempo.
 
-use crate::common::{lengths, Cells, UNTOUCHED};
+use crate::common::{lengths, translated, Cells, UNTOUCHED};
 use second::generate::draft::Draft;
 use second::generate::tempos::{changing, steady};
-use second::{decode, fresh, play, tick_list, trace_tick, translate};
+use second::{decode, fresh, play, tick_list, trace_tick};
 
 const TEMPO: usize = 9;
 const REMAINDER: usize = 10;
@@ -40,9 +40,7 @@ fn the_longest_translation_at_tempo_255_has_30840000_frames() {
     assert_eq!(cells[REMAINDER], 0);
     assert_eq!(out[61_680_000], UNTOUCHED);
     assert_eq!(out[61_679_999], 0);
-    let mut room = vec![0; 9 + 2 * 65_535];
-    assert_eq!(translate(&file, 65_535, &mut room).number, 0);
-    let stream = decode(&room).expect("translated");
+    let stream = decode(&translated(&file, 65_535), 4).expect("translated");
     assert_eq!(stream.lengths().iter().sum::<usize>(), 30_840_000);
 }
 

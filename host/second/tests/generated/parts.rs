@@ -3,11 +3,11 @@
 use crate::common::*;
 use second::generate::ends::ends;
 use second::generate::modules::{module, Size};
-use second::generate::streams::{bad_stream, first_tick, legal_stream};
+use second::generate::streams::{bad_stream, first_tick, legal_stream, older};
 use second::generate::tempos::changing;
 use second::generate::Random;
 use second::{
-    decode, encode, fresh, play_stream, play_stream_from, trace_tick, translate, Answer, Stream,
+    channels, decode, encode, fresh, play_stream, play_stream_from, trace_tick, Answer, Stream,
 };
 
 /// A stream with its module, its ticks' frames, and the numbers of its whole play.
@@ -20,7 +20,7 @@ struct Played {
 }
 
 fn played(file: Vec<u8>, bytes: Vec<u8>) -> Played {
-    let stream = decode(&bytes).expect("legal");
+    let stream = decode(&bytes, channels(&file)).expect("legal");
     let lengths = stream_lengths(&stream);
     let mut whole = vec![UNTOUCHED; 2 * lengths.iter().sum::<usize>()];
     let answer = play_stream(&bytes, &file, &mut whole);
@@ -52,19 +52,9 @@ impl Played {
     }
 }
 
-/// The stream of a module's first ticks, of either version.
-fn translated(file: &[u8], ticks: u32, version: u8) -> Vec<u8> {
-    let mut room = vec![0; 9 + 26 * ticks as usize];
-    let bytes = translate(file, ticks, &mut room).count as usize;
-    room.truncate(bytes);
-    room[4] = version;
-    room
-}
-
 /// Streams that no translator would write, and translated ones: of samples that end at ticks' first
 /// and last frames, and of tempos that change.
 fn any_played(seed: u64, ticks: u32) -> Played {
-    let version = [2, 2, 1][seed as usize % 3];
     let file = match seed % 4 {
         0 | 1 => module(seed % 100, Size::Small),
         2 => ends(seed),
@@ -72,7 +62,8 @@ fn any_played(seed: u64, ticks: u32) -> Played {
     };
     let bytes = match seed % 4 {
         0 | 1 => legal_stream(seed, &file),
-        _ => translated(&file, ticks, version),
+        _ if seed % 3 == 0 => older(&translated(&file, ticks), 1),
+        _ => translated(&file, ticks),
     };
     played(file, bytes)
 }
@@ -118,6 +109,7 @@ fn from_any_tick_what_fits_is_cut_from_the_whole() {
         };
         let alone = encode(&Stream {
             version: played.stream.version,
+            channels: played.stream.channels,
             ticks: rest.to_vec(),
         });
         let mut out = vec![UNTOUCHED; room];
@@ -156,7 +148,7 @@ fn voices_end_at_the_ticks_that_plays_begin_with() {
     let [mut last, mut first, mut wraps] = [0; 3];
     for seed in 0..100 {
         let file = ends(seed);
-        let played = played(file.clone(), translated(&file, 9, 2));
+        let played = played(file.clone(), translated(&file, 9));
         let mut cells = fresh();
         for (tick, &length) in played.lengths.iter().enumerate() {
             let trace = trace_tick(&file, &mut cells).expect("accepted");

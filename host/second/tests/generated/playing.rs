@@ -10,11 +10,8 @@ use second::{
 
 /// What a translation and the stream player make of the same ticks and room.
 fn streamed(file: &[u8], ticks: u32, length: usize) -> (Answer, Vec<i16>) {
-    let mut room = vec![0xAA; 9 + 26 * ticks as usize + 3];
-    let bytes = translate(file, ticks, &mut room).count as usize;
-    assert!(room[bytes..].iter().all(|&byte| byte == 0xAA));
     let mut out = vec![UNTOUCHED; length];
-    let answer = play_stream(&room[..bytes], file, &mut out);
+    let answer = play_stream(&translated(file, ticks), file, &mut out);
     (answer, out)
 }
 
@@ -55,12 +52,13 @@ fn translations_need_their_exact_room() {
         let mut short = vec![7; needed as usize - 1];
         assert_eq!(translate(&file, ticks, &mut short), refused(12, needed));
         assert!(short.iter().all(|&byte| byte == 7), "seed {seed}");
-        let mut room = vec![7; needed as usize];
+        let mut room = vec![7; needed as usize + 3];
         assert_eq!(
             translate(&file, ticks, &mut room),
             accepted(needed),
             "seed {seed}"
         );
+        assert_eq!(room[needed as usize..], [7; 3], "seed {seed}");
     }
 }
 

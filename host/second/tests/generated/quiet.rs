@@ -3,18 +3,19 @@
 use crate::common::*;
 use second::generate::quiet::{channel, hushed, quiet_state};
 use second::generate::states::illegal_state;
-use second::{fresh, judge, trace_tick, why_quiet};
+use second::{channels, fresh, judge, trace_tick, why_quiet};
 
 /// Cells before the first channel's, of one channel, and of its own before its voice's.
 const SONG_CELLS: usize = 13;
-const CHANNEL_CELLS: usize = (second::STATE_CELLS - SONG_CELLS) / 4;
+const CHANNEL_CELLS: usize = (second::STATE_CELLS - SONG_CELLS) / 8;
 const VOICE: usize = CHANNEL_CELLS - 6;
 
 /// Whether the first frame of this voice alone isn't silent, on a module without notes.
 fn heard(file: &[u8], cells: &Cells, channel: usize) -> bool {
     let mut blank = file.to_vec();
     let patterns = 1 + usize::from(*file[952..1_080].iter().max().expect("128 entries"));
-    blank[1_084..1_084 + 1_024 * patterns].fill(0);
+    let pattern_bytes = 256 * channels(file) as usize;
+    blank[1_084..1_084 + pattern_bytes * patterns].fill(0);
     let own = SONG_CELLS + CHANNEL_CELLS * (channel - 1);
     let voice = &cells[own + VOICE..own + CHANNEL_CELLS];
     let mut alone = fresh();
@@ -36,12 +37,16 @@ fn it_sounds_exactly_where_it_is_heard() {
             file(seed)
         };
         let cells = quiet_state(seed, &file);
-        for channel in 1..=4 {
-            let answer = why_quiet(&file, &cells, channel as u32);
+        for channel in 1..=channels(&file) {
+            let answer = why_quiet(&file, &cells, channel);
             assert_eq!((answer.number, answer.place), (0, 0), "seed {seed}");
             let cause = answer.count;
             assert!((1..=6).contains(&cause), "seed {seed}");
-            assert_eq!(cause == 6, heard(&file, &cells, channel), "seed {seed}");
+            assert_eq!(
+                cause == 6,
+                heard(&file, &cells, channel as usize),
+                "seed {seed}"
+            );
             seen[cause as usize] += 1;
         }
     }
@@ -69,7 +74,7 @@ fn refusals_come_in_their_order() {
             assert_eq!(answer, refusal, "seed {seed}");
         } else if seed % 3 == 0 {
             assert_eq!(answer, refused(14, 0), "seed {seed}");
-        } else if number == 0 || number > 4 {
+        } else if number == 0 || number > channels(&file) {
             assert_eq!(answer, refused(25, 0), "seed {seed}");
         } else {
             assert_eq!(answer, accepted(answer.count), "seed {seed}");

@@ -1,9 +1,9 @@
 //! Generated streams: legal ones play, aimed ones get their refusal, damaged ones change nothing.
 
-use crate::common::{accepted, fitting, refused, stream_lengths, UNTOUCHED};
+use crate::common::{accepted, fitting, refused, stream_lengths, translated, UNTOUCHED};
 use second::generate::modules::{module, Size};
 use second::generate::streams::{bad_stream, damaged_stream, legal_stream};
-use second::{decode, encode, play_stream, tick_list, translate, Stream};
+use second::{channels, decode, encode, play_stream, tick_list, Stream};
 
 fn file(seed: u64) -> Vec<u8> {
     module(
@@ -21,7 +21,7 @@ fn legal_streams_play_all_that_fits() {
     for seed in 0..1_500 {
         let file = file(seed);
         let stream = legal_stream(seed, &file);
-        let lengths = stream_lengths(&decode(&stream).expect("legal"));
+        let lengths = stream_lengths(&decode(&stream, channels(&file)).expect("legal"));
         let mut out = vec![UNTOUCHED; seed as usize * 37 % 40_000];
         let (fit, filled) = fitting(&lengths, 2, out.len());
         assert_eq!(
@@ -41,10 +41,11 @@ fn a_stream_rewritten_sounds_the_same() {
     for seed in 0..500 {
         let file = file(seed);
         let stream = legal_stream(seed, &file);
-        let read = decode(&stream).expect("legal");
+        let read = decode(&stream, channels(&file)).expect("legal");
         let shortest = encode(&read);
         assert!(shortest.len() <= stream.len(), "seed {seed}");
-        assert_eq!(decode(&shortest).as_ref(), Ok(&read), "seed {seed}");
+        let again = decode(&shortest, channels(&file));
+        assert_eq!(again.as_ref(), Ok(&read), "seed {seed}");
         let mut one = vec![0; 20_000];
         let mut other = one.clone();
         let answer = play_stream(&stream, &file, &mut one);
@@ -62,13 +63,17 @@ fn translations_decode_to_their_ticks() {
     for seed in 0..500 {
         let file = file(seed);
         let ticks = (seed % 97) as u32;
-        let mut room = vec![0; 9 + 26 * ticks as usize];
-        let bytes = translate(&file, ticks, &mut room).count as usize;
         let expected = Stream {
-            version: 2,
+            version: 3,
+            channels: channels(&file),
             ticks: tick_list(&file, ticks).expect("accepted"),
         };
-        assert_eq!(decode(&room[..bytes]), Ok(expected), "seed {seed}");
+        let stream = translated(&file, ticks);
+        assert_eq!(
+            decode(&stream, channels(&file)),
+            Ok(expected),
+            "seed {seed}"
+        );
     }
 }
 
@@ -92,15 +97,13 @@ fn bad_streams_get_their_refusal() {
 
 #[test]
 fn damaged_streams_play_or_change_nothing() {
-    let mut seen = [0; 24];
+    let mut seen = [0; 29];
     for seed in 0..6_000 {
         let file = module(seed % 50, Size::Small);
-        let mut room = [0; 400];
-        let bytes = translate(&file, 12, &mut room).count as usize;
         let good = if seed % 2 == 0 {
             legal_stream(seed, &file)
         } else {
-            room[..bytes].to_vec()
+            translated(&file, 12)
         };
         let damaged = damaged_stream(seed, &good);
         let mut out = [UNTOUCHED; 4_000];
@@ -112,7 +115,7 @@ fn damaged_streams_play_or_change_nothing() {
         }
     }
     assert!(
-        [0, 21, 22, 23].iter().all(|&number| seen[number] > 50),
+        [0, 21, 22, 23, 28].iter().all(|&number| seen[number] > 50),
         "{seen:?}"
     );
 }

@@ -5,7 +5,7 @@ use crate::common::*;
 use second::generate::modules::{module, Size};
 use second::generate::states::{illegal_state, legal_state};
 use second::generate::waves::wavering;
-use second::{fresh, judge, play, play_stream, trace_tick, translate, Trace};
+use second::{channels, fresh, judge, play, play_stream, trace_tick, Trace};
 
 /// Cells of the state and, counted from a channel's first, of its own.
 const DELAY: usize = 3;
@@ -55,9 +55,7 @@ impl<'a> Met<'a> {
         trace: &Trace,
         channel: usize,
     ) -> Self {
-        let pattern = usize::from(file[952 + trace.position as usize]);
-        let place = 1_084 + 1_024 * pattern + 16 * trace.row as usize + 4 * channel;
-        let cell = &file[place..place + 4];
+        let cell = &row(file, trace.position, trace.row)[4 * channel..4 * channel + 4];
         let own = FIRST_CHANNEL + CHANNEL_CELLS * channel;
         let voice = trace.voices[channel];
         Met {
@@ -390,7 +388,7 @@ fn company() -> Vec<(&'static str, Test)> {
 fn tick(file: &[u8], cells: &mut Cells, mut show: impl FnMut(&Met)) {
     let before = *cells;
     let trace = trace_tick(file, cells).expect("legal");
-    for channel in 0..4 {
+    for channel in 0..channels(file) as usize {
         show(&Met::new(file, &before, cells, &trace, channel));
     }
 }
@@ -475,20 +473,20 @@ fn the_board_plays_wavering_modules_as_the_player_does() {
     for seed in 0..150 {
         let file = wavering(seed);
         let ticks = 5 + seed as u32 % 40;
-        let mut stream = vec![0; 9 + 26 * ticks as usize];
-        let bytes = translate(&file, ticks, &mut stream).count as usize;
+        let stream = translated(&file, ticks);
         let mut player = vec![UNTOUCHED; 40_000 + seed as usize];
         let mut board = player.clone();
         let answer = play(&file, &mut fresh(), ticks, &mut player);
-        assert_eq!(play_stream(&stream[..bytes], &file, &mut board), answer);
+        assert_eq!(play_stream(&stream, &file, &mut board), answer);
         assert!(player == board, "seed {seed}");
     }
 }
 
-/// The four cells of each of a state's eight waves.
-fn waves(cells: &Cells) -> Vec<&[u32]> {
-    let channels = cells[FIRST_CHANNEL..].chunks_exact(CHANNEL_CELLS);
-    let waves = channels.flat_map(|own| [&own[VIBRATO..TREMOLO], &own[TREMOLO..TREMOLO + 4]]);
+/// The four cells of each of a state's waves, two for each of the module's channels.
+fn waves<'a>(file: &[u8], cells: &'a Cells) -> Vec<&'a [u32]> {
+    let all = cells[FIRST_CHANNEL..].chunks_exact(CHANNEL_CELLS);
+    let own = all.take(channels(file) as usize);
+    let waves = own.flat_map(|own| [&own[VIBRATO..TREMOLO], &own[TREMOLO..TREMOLO + 4]]);
     waves.collect()
 }
 
@@ -498,7 +496,7 @@ fn legal_states_hold_any_wave() {
     for seed in 0..6_000 {
         let file = wavering(seed % 20);
         let cells = legal_state(seed, &file);
-        for (wave, numbers) in waves(&cells).into_iter().enumerate() {
+        for (wave, numbers) in waves(&file, &cells).into_iter().enumerate() {
             for (number, &held) in numbers.iter().enumerate() {
                 seen[4 * wave + number][held as usize] += 1;
             }
@@ -519,7 +517,7 @@ fn illegal_states_break_each_number_of_a_wave_alone() {
         let file = wavering(seed % 20);
         let cells = illegal_state(seed, &file);
         let mut wrong = 0;
-        for (wave, numbers) in waves(&cells).into_iter().enumerate() {
+        for (wave, numbers) in waves(&file, &cells).into_iter().enumerate() {
             for (number, (&held, last)) in numbers.iter().zip(LASTS).enumerate() {
                 wrong += u32::from(held > last);
                 seen[4 * wave + number][0] += u32::from(held == last + 1);

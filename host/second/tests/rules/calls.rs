@@ -8,7 +8,7 @@ fn fresh_is_the_papers() {
     let mut expected = [0; STATE_CELLS];
     expected[SPEED] = 6;
     expected[TEMPO] = 125;
-    for channel in 1..=4 {
+    for channel in 1..=8 {
         expected[at(channel, STOPPED)] = 1;
     }
     assert_eq!(fresh(), expected);

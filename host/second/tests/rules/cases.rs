@@ -147,16 +147,14 @@ fn both_whole_streams_play_as_version_1() {
 }
 
 #[test]
-fn translation_gives_both_as_version_2() {
+fn translation_gives_both_as_version_3() {
     let mut room = [0xAA; 20];
-    assert_eq!(translate(&song().bytes(), 1, &mut room), played(11));
-    assert_eq!(room[4], 2);
-    assert_eq!(room[..4], EMPTY_ROW[..4]);
-    assert_eq!(room[5..11], EMPTY_ROW[5..]);
-    assert_eq!(room[11..], [0xAA; 9]);
-    assert_eq!(translate(&one_note().bytes(), 1, &mut room), played(17));
-    assert_eq!(room[4], 2);
-    assert_eq!(room[..4], ONE_NOTE[..4]);
-    assert_eq!(room[5..17], ONE_NOTE[5..]);
-    assert_eq!(room[17..], [0xAA; 3]);
+    assert_eq!(translate(&song().bytes(), 1, &mut room), played(12));
+    assert_eq!(room[..6], [0, 0, 0, 8, 3, 4]);
+    assert_eq!(room[6..12], EMPTY_ROW[5..]);
+    assert_eq!(room[12..], [0xAA; 8]);
+    assert_eq!(translate(&one_note().bytes(), 1, &mut room), played(18));
+    assert_eq!(room[..6], [0, 0, 0, 14, 3, 4]);
+    assert_eq!(room[6..18], ONE_NOTE[5..]);
+    assert_eq!(room[18..], [0xAA; 2]);
 }

@@ -1,7 +1,7 @@
 //! What the rule tests share: names of the state's cells, a small song, and ways to play it.
 
 use second::generate::draft::Draft;
-use second::{fresh, trace_tick, Answer, Trace, STATE_CELLS};
+use second::{fresh, trace_tick, translate, Answer, Trace, STATE_CELLS};
 
 pub const POSITION: usize = 0;
 pub const ROW: usize = 1;
@@ -125,13 +125,31 @@ pub fn places(draft: &Draft, ticks: usize) -> Vec<(u32, u32)> {
     places
 }
 
-/// A stream of these records.
+/// A stream of these records whose version has no count of channels.
 pub fn stream(version: u8, count: u32, records: &[u8]) -> Vec<u8> {
-    let mut stream = (5 + records.len() as u32).to_be_bytes().to_vec();
-    stream.push(version);
-    stream.extend_from_slice(&count.to_be_bytes());
-    stream.extend_from_slice(records);
-    stream
+    with_length(&[&[version], &count.to_be_bytes()[..], records])
+}
+
+/// A stream of version 3 for so many channels.
+pub fn counted(channels: u8, count: u32, records: &[u8]) -> Vec<u8> {
+    with_length(&[&[3, channels], &count.to_be_bytes()[..], records])
+}
+
+/// These bytes after the count of them.
+pub fn with_length(parts: &[&[u8]]) -> Vec<u8> {
+    let following = parts.concat();
+    let length = following.len() as u32;
+    [&length.to_be_bytes()[..], &following].concat()
+}
+
+/// The stream of a module's first ticks.
+pub fn translated(file: &[u8], ticks: u32) -> Vec<u8> {
+    // Ten bytes, and for each tick two and six a channel at most.
+    let mut room = vec![0; 10 + 50 * ticks as usize];
+    let answer = translate(file, ticks, &mut room);
+    assert_eq!(answer.number, 0, "the file is accepted");
+    room.truncate(answer.count as usize);
+    room
 }
 
 /// The sounded periods of channel 1, tick by tick.

@@ -4,7 +4,7 @@ use crate::common::*;
 use second::generate::draft::Draft;
 use second::{
     delivered, fresh, mono, play, play_floats, play_stream_floats, play_stream_floats_from, side,
-    translate, Frame,
+    Frame,
 };
 
 /// A NaN whose bits must stay where nothing is stored.
@@ -257,7 +257,7 @@ fn on_the_board_24_comes_after_9_and_before_the_stream() {
     let mut bad = song();
     bad.put(0, 63, 3, 0, 112, 0);
     let good = stream(2, 1, &[0, 125]);
-    let wrong_version = stream(3, 1, &[0, 125]);
+    let wrong_version = stream(4, 1, &[0, 125]);
     let wrong_record = stream(2, 1, &[16, 125]);
     for sides in [0, 3, u32::MAX] {
         for bytes in [&good, &wrong_version, &wrong_record, &Vec::new()] {
@@ -279,11 +279,9 @@ fn on_the_board_24_comes_after_9_and_before_the_stream() {
 
 #[test]
 fn the_board_gives_the_players_floats_and_record() {
-    let draft = two_voices();
-    let mut room = [0; 100];
-    let count = translate(&draft.bytes(), 4, &mut room).count as usize;
+    let (draft, stream) = (two_voices(), two_voices_stream(4));
     for (sides, length) in [(1, 0), (1, 1_000), (1, 3_840), (2, 5_000), (2, 9_001)] {
-        let board = board_floats(&draft, &room[..count], sides, length);
+        let board = board_floats(&draft, &stream, sides, length);
         let player = floats(&draft, &mut fresh(), 4, sides, length);
         assert_eq!(board, player, "{sides} sides, {length}");
     }
@@ -291,10 +289,7 @@ fn the_board_gives_the_players_floats_and_record() {
 
 /// The stream of the first ticks of two voices.
 fn two_voices_stream(ticks: u32) -> Vec<u8> {
-    let mut room = vec![0; 9 + 26 * ticks as usize];
-    let count = translate(&two_voices().bytes(), ticks, &mut room).count as usize;
-    room.truncate(count);
-    room
+    translated(&two_voices().bytes(), ticks)
 }
 
 #[test]
@@ -348,7 +343,7 @@ fn from_any_tick_24_comes_after_9_and_before_the_stream() {
             (&song(), &wrong_record, 3, refused(24, 0)),
             (&song(), &wrong_record, 0, refused(24, 0)),
             (&song(), &Vec::new(), 1, refused(21, 0)),
-            (&song(), &stream(3, 1, &[16, 125]), 1, refused(22, 4)),
+            (&song(), &stream(4, 1, &[16, 125]), 1, refused(22, 4)),
             (&song(), &wrong_record, 2, refused(23, 9)),
         ] {
             let refusal = board_floats_from(draft, stream, from, sides, 2_000);

@@ -220,7 +220,7 @@ fn refusals_are_those_of_the_whole_from_any_tick() {
     let mut bad = song();
     bad.put(0, 63, 3, 0, 112, 0);
     let records = [0, 125, 0, 125, 0, 31];
-    let (legal, version) = (stream(2, 2, &records[..4]), stream(3, 3, &records));
+    let (legal, version) = (stream(2, 2, &records[..4]), stream(4, 3, &records));
     let record = stream(2, 3, &records);
     for from in [0, 1, 2, 3, u32::MAX] {
         for (draft, stream, answer) in [

@@ -9,14 +9,14 @@ fn translation_is_judged_11_before_12() {
     assert_eq!(translate(&file, 65_536, &mut []), refused(11, 0));
     assert_eq!(
         translate(&file, 65_535, &mut []),
-        refused(12, 9 + 2 * 65_535)
+        refused(12, 10 + 2 * 65_535)
     );
-    let mut room = [5; 8];
-    assert_eq!(translate(&file, 0, &mut room), refused(12, 9));
-    assert_eq!(room, [5; 8]);
-    let mut room = [5; 10];
-    assert_eq!(translate(&file, 0, &mut room), played(9));
-    assert_eq!(room, [0, 0, 0, 5, 2, 0, 0, 0, 0, 5]);
+    let mut room = [5; 9];
+    assert_eq!(translate(&file, 0, &mut room), refused(12, 10));
+    assert_eq!(room, [5; 9]);
+    let mut room = [5; 11];
+    assert_eq!(translate(&file, 0, &mut room), played(10));
+    assert_eq!(room, [0, 0, 0, 6, 3, 4, 0, 0, 0, 0, 5]);
 }
 
 /// The answer to a stream of these records, with room for two ticks at tempo 125.
@@ -48,23 +48,25 @@ fn a_stream_has_9_bytes_and_the_length_it_says() {
 }
 
 #[test]
-fn versions_other_than_1_and_2_are_refused() {
+fn versions_other_than_1_to_3_are_refused() {
     let file = song().bytes();
     for version in 0..=255 {
-        let expected = if version == 1 || version == 2 {
-            played(0)
-        } else {
-            refused(22, 4)
+        let expected = match version {
+            1 | 2 => played(0),
+            // Nine bytes are too few for its count of channels.
+            3 => refused(28, 4),
+            _ => refused(22, 4),
         };
-        let good = stream(version, 0, &[]);
-        assert_eq!(play_stream(&good, &file, &mut []), expected);
+        let nine = stream(version, 0, &[]);
+        assert_eq!(play_stream(&nine, &file, &mut []), expected);
     }
+    assert_eq!(play_stream(&counted(4, 0, &[]), &file, &mut []), played(0));
 }
 
 #[test]
 fn a_version_is_judged_after_the_length_and_before_the_records() {
     let file = song().bytes();
-    for version in [0, 3, 255] {
+    for version in [0, 4, 255] {
         let mut wrong = stream(version, 7, &[255]);
         assert_eq!(play_stream(&wrong, &file, &mut []), refused(22, 4));
         wrong[3] = 7;
@@ -165,11 +167,10 @@ fn decoding_gives_the_translated_ticks() {
         (0, 0, 0xF30),
     ]);
     let file = draft.bytes();
-    let mut room = [0; 500];
-    let count = translate(&file, 9, &mut room).count as usize;
     let expected = Stream {
-        version: 2,
+        version: 3,
+        channels: 4,
         ticks: tick_list(&file, 9).expect("accepted"),
     };
-    assert_eq!(decode(&room[..count]), Ok(expected));
+    assert_eq!(decode(&translated(&file, 9), 4), Ok(expected));
 }

@@ -3,9 +3,7 @@
 use crate::common::*;
 use second::generate::draft::Draft;
 use second::generate::waves::wavering;
-use second::{
-    change_page, fresh, play, play_stream, tick_list, touch, translate, why_quiet, STATE_CELLS,
-};
+use second::{change_page, fresh, play, play_stream, tick_list, touch, why_quiet, STATE_CELLS};
 
 const SINE: u32 = 0;
 const RAMP: u32 = 1;
@@ -702,7 +700,7 @@ fn the_waves_stand_between_slide_memory_and_voice() {
         &[(0, 0, 0), (0, 0, 0xE72)],
         &[(0, 0, 0), (0, 300, 0x307)],
     ]);
-    assert_eq!(STATE_CELLS, 89);
+    assert_eq!(STATE_CELLS, 165);
     let cells = state_after(&draft, 10);
     assert_eq!(
         cells[32..48],
@@ -710,13 +708,13 @@ fn the_waves_stand_between_slide_memory_and_voice() {
     );
     assert_eq!(cells[50], 0);
     assert_eq!(cells[13..31], [0; 18]);
-    assert_eq!([cells[31], cells[69], cells[88]], [1; 3]);
+    assert_eq!([cells[31], cells[69], cells[88], cells[164]], [1; 4]);
 }
 
 #[test]
 fn all_of_them_begin_at_0() {
     let cells = fresh();
-    for channel in 1..=4 {
+    for channel in 1..=8 {
         let own = &cells[at(channel, VIBRATO_X)..=at(channel, TREMOLO_FORM)];
         assert_eq!(own, [0; 8], "channel {channel}");
     }
@@ -812,8 +810,6 @@ fn a_tremolo_down_to_0_is_quiet() {
 fn the_streams_volume_is_the_sounded_one() {
     // Places 0, 15, 30: 0, 253, 49 times 4 div 64; then t = 0 again.
     let draft = row(&[(1, 428, 0x7F4), (0, 0, 0xF04)]);
-    let mut room = [0xAA; 60];
-    assert_eq!(translate(&draft.bytes(), 5, &mut room), played(43));
     let records = [
         &[1, 125, 1, 40, 1, 172, 1, 0][..],
         &[0, 125],
@@ -821,16 +817,14 @@ fn the_streams_volume_is_the_sounded_one() {
         &[1, 125, 1, 43, 1, 172, 0, 0],
         &[1, 125, 1, 40, 1, 172, 0, 0],
     ];
-    assert_eq!(room[..43], stream(2, 5, &records.concat()));
-    assert_eq!(room[43..], [0xAA; 17]);
+    let expected = counted(4, 5, &records.concat());
+    assert_eq!(translated(&draft.bytes(), 5), expected);
 }
 
 #[test]
 fn the_streams_period_is_the_sounded_one() {
     // Places 0, 15, 30: 0, 253, 49 times 8 div 128.
     let draft = row(&[(1, 428, 0x4F8), (0, 0, 0xF04)]);
-    let mut room = [0xAA; 60];
-    assert_eq!(translate(&draft.bytes(), 5, &mut room), played(43));
     let records = [
         &[1, 125, 1, 40, 1, 172, 1, 0][..],
         &[0, 125],
@@ -838,18 +832,18 @@ fn the_streams_period_is_the_sounded_one() {
         &[1, 125, 1, 40, 1, 175, 0, 0],
         &[1, 125, 1, 40, 1, 172, 0, 0],
     ];
-    assert_eq!(room[..43], stream(2, 5, &records.concat()));
+    let expected = counted(4, 5, &records.concat());
+    assert_eq!(translated(&draft.bytes(), 5), expected);
 }
 
 /// The player's and the board's frames of the first ticks.
 fn both(file: &[u8], ticks: u32) -> [Vec<i16>; 2] {
-    let mut stream = vec![0; 9 + 26 * ticks as usize];
-    let bytes = translate(file, ticks, &mut stream).count as usize;
     let mut player = vec![7; 7_500 * ticks as usize];
     let mut board = player.clone();
     let answer = play(file, &mut fresh(), ticks, &mut player);
     assert_eq!(answer, played(ticks.into()));
-    assert_eq!(play_stream(&stream[..bytes], file, &mut board), answer);
+    let stream = translated(file, ticks);
+    assert_eq!(play_stream(&stream, file, &mut board), answer);
     [player, board]
 }
 
