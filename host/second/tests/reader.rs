@@ -3,7 +3,7 @@
 use second::generate::damage::{aimed, any_file, at_edge, at_random};
 use second::generate::draft::Draft;
 use second::generate::modules::{module, Size};
-use second::{judge, Answer};
+use second::{channels, judge, Answer};
 
 fn refused(number: u64, place: u64) -> Answer {
     Answer {
@@ -76,6 +76,127 @@ fn run_only_cases() {
     assert_eq!(judge(&good), ACCEPTED);
     assert_eq!(judge(&[]), refused(1, 0));
     assert_eq!(judge(&good[..1_084]), refused(7, 1_084));
+}
+
+/// The tags, each with its channels.
+const TAGS: [(&[u8; 4], usize); 4] = [(b"M.K.", 4), (b"4CHN", 4), (b"6CHN", 6), (b"8CHN", 8)];
+
+#[test]
+fn a_tag_names_its_channels() {
+    for (tag, count) in TAGS {
+        let file = Draft::tagged(tag).bytes();
+        assert_eq!(judge(&file), ACCEPTED, "{tag:?}");
+        assert_eq!(channels(&file), count as u32, "{tag:?}");
+        assert_eq!(channels(&file[..1_084]), count as u32, "{tag:?}");
+        for short in [1_083, 1_080, 4, 0] {
+            assert_eq!(channels(&file[..short]), 0, "{tag:?}");
+            assert_eq!(judge(&file[..short]), refused(1, short as u64), "{tag:?}");
+        }
+    }
+}
+
+#[test]
+fn other_tags_are_refused() {
+    let near: [&[u8; 4]; 20] = [
+        b"M!K!", b"FLT4", b"FLT8", b"2CHN", b"1CHN", b"5CHN", b"7CHN", b"9CHN", b"0CHN", b"6CHM",
+        b"6CH\0", b"8chn", b"m.k.", b"10CH", b"08CH", b"CHN8", b"CD81", b"OCTA", b"M.K\0",
+        b"\x08CHN",
+    ];
+    for tag in near {
+        for (good, _) in TAGS {
+            let mut file = Draft::tagged(good).bytes();
+            file[1_080..1_084].copy_from_slice(tag);
+            assert_eq!(judge(&file), refused(2, 1_080), "{tag:?}");
+            assert_eq!(channels(&file), 0, "{tag:?}");
+            // 2 comes before 3 to 9.
+            file[950] = 0;
+            assert_eq!(judge(&file), refused(2, 1_080), "{tag:?}");
+        }
+    }
+}
+
+#[test]
+fn each_byte_of_a_tag_counts() {
+    for (tag, _) in TAGS {
+        for place in 1_080..1_084 {
+            for bit in 0..8 {
+                let mut file = Draft::tagged(tag).bytes();
+                file[place] ^= 1 << bit;
+                let known = TAGS.iter().find(|(tag, _)| file[1_080..1_084] == tag[..]);
+                let count = known.map_or(0, |&(_, count)| count as u32);
+                assert_eq!(channels(&file), count, "{tag:?}");
+            }
+        }
+    }
+}
+
+#[test]
+fn patterns_have_256_bytes_a_channel() {
+    for (tag, count) in TAGS {
+        let mut draft = Draft::tagged(tag);
+        for patterns in [1, 2, 64] {
+            draft.table[100] = patterns as u8 - 1;
+            draft.patterns = vec![draft.patterns[0]; patterns];
+            let file = draft.bytes();
+            let length = 1_084 + 256 * count * patterns;
+            assert_eq!(file.len(), length, "{tag:?}");
+            assert_eq!(judge(&file), ACCEPTED, "{tag:?}");
+            for short in [length - 1, length - 256, 1_084] {
+                assert_eq!(judge(&file[..short]), refused(7, short as u64), "{tag:?}");
+            }
+        }
+        draft.add_sample(31, 64, &[1, 2]);
+        let file = draft.bytes();
+        assert_eq!(judge(&file), ACCEPTED, "{tag:?}");
+        let short = file.len() - 1;
+        assert_eq!(judge(&file[..short]), refused(7, short as u64), "{tag:?}");
+    }
+}
+
+#[test]
+fn another_tag_counts_other_patterns() {
+    for (tag, count) in TAGS {
+        for (other, needed) in TAGS {
+            let mut file = Draft::tagged(tag).bytes();
+            file[1_080..1_084].copy_from_slice(other);
+            let expected = if count < needed {
+                refused(7, 1_084 + 256 * count as u64)
+            } else {
+                ACCEPTED
+            };
+            assert_eq!(judge(&file), expected, "{tag:?} as {other:?}");
+        }
+    }
+}
+
+#[test]
+fn bad_cells_have_their_place_on_each_channel() {
+    for (tag, count) in TAGS {
+        for (pattern, row) in [(0, 0), (0, 1), (0, 63), (1, 0), (1, 63)] {
+            for channel in 0..count {
+                let mut draft = Draft::tagged(tag);
+                draft.table[127] = 1;
+                draft.patterns.push(draft.patterns[0]);
+                let place = 1_084 + 4 * (count * (64 * pattern + row) + channel);
+                draft.put(pattern, row, channel, 31, 856, 0);
+                assert_eq!(judge(&draft.bytes()), ACCEPTED, "{tag:?}");
+                draft.put(pattern, row, channel, 31, 112, 0);
+                assert_eq!(judge(&draft.bytes()), refused(9, place as u64), "{tag:?}");
+                draft.put(pattern, row, channel, 32, 112, 0);
+                assert_eq!(judge(&draft.bytes()), refused(8, place as u64), "{tag:?}");
+            }
+        }
+    }
+}
+
+#[test]
+fn the_first_bad_cell_of_a_row_of_eight_decides() {
+    let mut draft = Draft::tagged(b"8CHN");
+    draft.put(0, 1, 0, 32, 0, 0);
+    draft.put(0, 0, 7, 0, 857, 0);
+    assert_eq!(judge(&draft.bytes()), refused(9, 1_084 + 28));
+    draft.put(0, 0, 4, 32, 0, 0);
+    assert_eq!(judge(&draft.bytes()), refused(8, 1_084 + 16));
 }
 
 /// The good file with one byte set.

@@ -67,10 +67,20 @@ pub fn at(channel: usize, cell: usize) -> usize {
     13 + 19 * (channel - 1) + cell
 }
 
+pub type Tag = &'static [u8; 4];
+
+/// The tags, each with its channels.
+pub const TAGS: [(Tag, usize); 4] = [(b"M.K.", 4), (b"4CHN", 4), (b"6CHN", 6), (b"8CHN", 8)];
+
+/// A song of four channels.
+pub fn song() -> Draft {
+    song_of(b"M.K.")
+}
+
 /// Sample 1: 20 words of 100, volume 40. Sample 2: 300 words of 50, looped from word 100 to
 /// word 200, volume 64. Sample 3: empty, volume 20.
-pub fn song() -> Draft {
-    let mut draft = Draft::empty();
+pub fn song_of(tag: Tag) -> Draft {
+    let mut draft = Draft::tagged(tag);
     draft.add_sample(1, 40, &[100; 40]);
     draft.add_looped(2, 64, 100, 100, &[50; 600]);
     draft.headers[2].volume = 20;
@@ -85,7 +95,12 @@ pub fn row(cells: &[(u32, u32, u32)]) -> Draft {
 
 /// A song whose first rows have these cells.
 pub fn rows(rows: &[&[(u32, u32, u32)]]) -> Draft {
-    let mut draft = song();
+    rows_of(b"M.K.", rows)
+}
+
+/// The same of another tag.
+pub fn rows_of(tag: Tag, rows: &[&[(u32, u32, u32)]]) -> Draft {
+    let mut draft = song_of(tag);
     for (row, cells) in rows.iter().enumerate() {
         for (channel, &(sample, period, effect)) in cells.iter().enumerate() {
             draft.put(0, row, channel, sample, period, effect);

@@ -3,6 +3,7 @@
 mod bursts;
 mod calls;
 mod cases;
+mod channels;
 mod common;
 mod effects;
 mod floats;
