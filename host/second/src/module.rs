@@ -192,7 +192,7 @@ fn check_loops(file: &[u8]) -> Result<(), Answer> {
 }
 
 /// One more than the largest of all 128 entries, played or not.
-fn pattern_count(file: &[u8]) -> usize {
+pub fn pattern_count(file: &[u8]) -> usize {
     let mut largest = 0;
     for place in TABLE..TABLE + TABLE_ENTRIES {
         largest = largest.max(usize::from(file[place]));

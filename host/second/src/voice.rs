@@ -128,7 +128,7 @@ pub fn frames<'a>(
 }
 
 /// Whether a channel, counted from 0, is on the left: the first and the last of each four.
-fn is_left(channel: usize) -> bool {
+pub fn is_left(channel: usize) -> bool {
     matches!(channel % 4, 0 | 3)
 }
 

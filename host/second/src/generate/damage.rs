@@ -4,8 +4,8 @@ use super::draft::Draft;
 use super::modules::{self, draft, Size};
 use super::{cells, Damaged, Random};
 use crate::module::{
-    CELL_BYTES, HEADERS, HEADER_BYTES, PATTERNS, ROWS, SAMPLES, SONG_LENGTH, TABLE, TABLE_ENTRIES,
-    TAG,
+    pattern_count, CELL_BYTES, CHANNEL_BYTES, HEADERS, HEADER_BYTES, PATTERNS, ROWS, SAMPLES,
+    SONG_LENGTH, TABLE, TABLE_ENTRIES, TAG, TAGS, TAG_BYTES,
 };
 
 /// Any file for the reader: valid, at the edge, aimed at a refusal, or damaged at random.
@@ -52,7 +52,7 @@ pub fn aimed(seed: u64, number: u64) -> Damaged {
 /// Refusals 7 to 9, in which the file's exact length counts.
 fn aimed_late(random: &mut Random, draft: &Draft, number: u64) -> Damaged {
     let mut file = draft.bytes();
-    let cells = 256 * draft.patterns.len() as u32;
+    let cells = (ROWS * draft.channels() * draft.patterns.len()) as u32;
     if number == 7 {
         for _ in 0..random.below(3) {
             let cell = random.below(cells);
@@ -126,7 +126,7 @@ pub fn at_random(seed: u64) -> Vec<u8> {
     let mut random = Random::new(seed);
     let mut file = draft(&mut random, Size::Small).bytes();
     let length = file.len() as u32;
-    match random.below(8) {
+    match random.below(9) {
         0 => file.truncate(random.below(length) as usize),
         1 => file.truncate((length - random.between(1, 4)) as usize),
         2 => {
@@ -135,6 +135,7 @@ pub fn at_random(seed: u64) -> Vec<u8> {
         3 => file.insert(random.below(length) as usize, random.byte()),
         4 => scatter(&mut random, &mut file, PATTERNS as u32),
         5 => random_bytes(&mut random, &mut file),
+        6 => put_tag(&mut random, &mut file),
         _ => scatter(&mut random, &mut file, length),
     }
     file
@@ -154,13 +155,19 @@ fn scatter(random: &mut Random, file: &mut [u8], limit: u32) {
 
 /// Nothing but random bytes, at times with a good tag.
 fn random_bytes(random: &mut Random, file: &mut Vec<u8>) {
-    file.truncate(random.edge_or(&[0, 1, 1084, 2108], 0, 2500) as usize);
+    file.truncate(random.edge_or(&[0, 1, 1084, 2108, 2620, 3132], 0, 3500) as usize);
     for byte in file.iter_mut() {
         *byte = random.byte();
     }
     if file.len() >= PATTERNS && random.chance(70) {
-        file[TAG..TAG + 4].copy_from_slice(b"M.K.");
+        put_tag(random, file);
     }
+}
+
+/// Puts a good tag on bytes that may be of another count of channels.
+fn put_tag(random: &mut Random, file: &mut [u8]) {
+    let (tag, _) = random.pick(&TAGS);
+    file[TAG..TAG + TAG_BYTES].copy_from_slice(tag);
 }
 
 fn add_later_faults(random: &mut Random, file: &mut Vec<u8>, number: u64) {
@@ -190,10 +197,11 @@ fn add_fault(random: &mut Random, file: &mut [u8], number: u64) -> usize {
 }
 
 fn break_tag(random: &mut Random, file: &mut [u8]) -> usize {
-    let tags: [&[u8]; 8] = [
-        b"M!K!", b"FLT4", b"2CHN", b"m.k.", b"M.K,", b"N.K.", b"M.L.", b"M/K.",
+    let tags: [&[u8]; 20] = [
+        b"M!K!", b"FLT4", b"FLT8", b"m.k.", b"M.K,", b"N.K.", b"M.L.", b"M/K.", b"2CHN", b"5CHN",
+        b"7CHN", b"9CHN", b"6CHM", b"8CHO", b"4DHN", b"6CIN", b"8chn", b"10CH", b"CHN4", b"OCTA",
     ];
-    file[TAG..TAG + 4].copy_from_slice(random.pick(&tags));
+    file[TAG..TAG + TAG_BYTES].copy_from_slice(random.pick(&tags));
     TAG
 }
 
@@ -284,9 +292,13 @@ fn break_period(random: &mut Random, file: &mut [u8], place: usize) {
     file[place + 1] = (period % 256) as u8;
 }
 
-/// Cuts an exact file, mostly by one byte, never below its start.
+/// Cuts an exact file, mostly by one byte or where the patterns of fewer channels would end, never
+/// below its start.
 fn shorten(random: &mut Random, file: &mut Vec<u8>) {
-    let length = file.len() as u32;
-    let cut = random.edge_or(&[length - 1, length - 2, 1084], 1084, length - 1);
+    let last = file.len() as u32 - 1;
+    let channels = random.pick(&[4, 6, 8]);
+    let patterns_end = PATTERNS + CHANNEL_BYTES * channels * pattern_count(file);
+    let fewer = last.min(patterns_end as u32);
+    let cut = random.edge_or(&[last, last - 1, 1084, fewer, fewer - 1], 1084, last);
     file.truncate(cut as usize);
 }

@@ -1,5 +1,6 @@
 //! A module under construction, and the bytes of its file.
 
+use super::Random;
 use crate::module::{
     tag_channels, Cell, CELL_BYTES, CHANNEL_BYTES, PATTERNS, ROWS, TABLE_ENTRIES, TAG_BYTES,
 };
@@ -7,6 +8,11 @@ use crate::voice::CHANNELS;
 
 /// Cells of a pattern: rows of eight, of which the file gets those of the tag's channels.
 pub const CELLS: usize = ROWS * CHANNELS;
+
+/// What tags are drawn from: four channels are as common as six and eight together.
+const TAGS: [&[u8; TAG_BYTES]; 8] = [
+    b"M.K.", b"M.K.", b"M.K.", b"4CHN", b"6CHN", b"6CHN", b"8CHN", b"8CHN",
+];
 
 /// One sample's header, lengths and starts in words.
 #[derive(Clone, Debug)]
@@ -38,6 +44,11 @@ impl Draft {
     /// One empty pattern of four channels, played once, and no samples.
     pub fn empty() -> Draft {
         Draft::tagged(b"M.K.")
+    }
+
+    /// The same with any of the tags.
+    pub fn any(random: &mut Random) -> Draft {
+        Draft::tagged(random.pick(&TAGS))
     }
 
     /// The same with another tag and its channels.

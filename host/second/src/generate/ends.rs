@@ -1,17 +1,13 @@
-//! Modules whose voices come to their samples' ends at chosen frames: the two of a side in one
-//! frame or within five of each other, on a tick's first and last frame, and over and over in loops
+//! Modules whose voices come to their samples' ends at chosen frames: those of a side in one frame
+//! or within five of one of them, on a tick's first and last frame, and over and over in loops
 //! of two words. How long the samples are follows from the rule of the step.
 
 use super::draft::{Draft, Header};
 use super::Random;
-use crate::module::{HIGHEST_PERIOD, LOWEST_PERIOD};
-use crate::voice::growth;
+use crate::module::{HIGHEST_PERIOD, LOWEST_PERIOD, SAMPLES};
+use crate::voice::{growth, is_left, CHANNELS};
 
-/// Rows with notes: each of their voices has a sample of its own.
-const ROWS: usize = 7;
-/// The channels, from 0, of each side.
-const SIDES: [[usize; 2]; 2] = [[0, 3], [1, 2]];
-/// Frames by which the ends of a side's two voices are apart at most.
+/// Frames by which the ends of a side's voices are apart from one of them at most.
 const FARTHEST: u32 = 5;
 /// The fewest steps that take a voice through two bytes, at the lowest period.
 const FEWEST_STEPS: u32 = 4;
@@ -28,16 +24,20 @@ struct Note {
 /// fresh; how near another it lies holds in every play.
 pub fn ends(seed: u64) -> Vec<u8> {
     let mut random = Random::new(seed);
-    let mut draft = Draft::empty();
+    let mut draft = Draft::any(&mut random);
+    // Each voice of a row has a sample of its own.
+    let rows = SAMPLES / draft.channels();
     let tempo = random.pick(&[32, 33, 125, 254, 255, 255]);
     let mut ticks = 0;
-    for row in 0..ROWS {
+    for row in 0..rows {
         let speed = random.between(1, 3);
         let limits = limits(tempo, ticks, speed);
-        let effects = effects(row, speed, tempo);
-        for side in SIDES {
-            for (channel, note) in side.into_iter().zip(pair(&mut random, &limits)) {
-                put(&mut draft, row, channel, note, effects[channel]);
+        let effects = effects(speed, tempo, row + 1 == rows);
+        for left in [true, false] {
+            let own = (0..draft.channels()).filter(|&channel| is_left(channel) == left);
+            let own: Vec<usize> = own.collect();
+            for (channel, note) in own.iter().zip(side(&mut random, own.len(), &limits)) {
+                put(&mut draft, row, *channel, note, effects[*channel]);
             }
         }
         ticks += speed;
@@ -64,33 +64,39 @@ fn bytes_in(steps: u32, period: u32) -> u32 {
     (u64::from(steps) * u64::from(growth(period)) / 65_536) as u32
 }
 
-/// Two notes of a side whose ends are near each other; at times one of them gives nothing.
-fn pair(random: &mut Random, limits: &[u32]) -> [Note; 2] {
+/// A side's notes, whose ends are near that of one of them; at times one gives nothing.
+fn side(random: &mut Random, voices: usize, limits: &[u32]) -> Vec<Note> {
     let steps = wanted(random, limits);
     let first = if random.chance(30) {
         at_edge(random, steps)
     } else {
         exact(random, steps)
     };
-    let first = note(random, first);
-    let apart = random.pick(&[0, 0, 1, 2, 3, 4, FARTHEST]);
-    let steps = if random.chance(50) {
-        first.steps + apart
-    } else {
-        first.steps.saturating_sub(apart).max(FEWEST_STEPS)
-    };
-    let second = exact(random, steps);
-    let mut second = note(random, second);
+    let mut notes = vec![note(random, first)];
+    while notes.len() < voices {
+        let near = near(random, notes[0].steps);
+        notes.push(near);
+    }
+    let second = &mut notes[1].header;
     match random.below(10) {
-        0 => second.header.volume = 0,
-        1 => (second.header.length, second.header.repeat) = (0, 0),
+        0 => second.volume = 0,
+        1 => (second.length, second.repeat) = (0, 0),
         _ => {}
     }
-    if random.chance(50) {
-        [first, second]
+    notes.rotate_left(random.below(voices as u32) as usize);
+    notes
+}
+
+/// A note whose end is near one after so many steps.
+fn near(random: &mut Random, steps: u32) -> Note {
+    let apart = random.pick(&[0, 0, 1, 2, 3, 4, FARTHEST]);
+    let steps = if random.chance(50) {
+        steps + apart
     } else {
-        [second, first]
-    }
+        steps.saturating_sub(apart).max(FEWEST_STEPS)
+    };
+    let through = exact(random, steps);
+    note(random, through)
 }
 
 /// Steps to an end: soon, in a tick's first frame, in a tick's last, or anywhere in the row.
@@ -154,14 +160,14 @@ fn note(random: &mut Random, (period, words): (u32, u32)) -> Note {
 }
 
 /// Each channel's effect: the row's speed, the tempo, and after the last row the first again.
-fn effects(row: usize, speed: u32, tempo: u32) -> [u32; 4] {
-    let again = if row + 1 == ROWS { 0xD00 } else { 0 };
-    [0xF00 + speed, 0xF00 + tempo, again, 0]
+fn effects(speed: u32, tempo: u32, last: bool) -> [u32; CHANNELS] {
+    let again = if last { 0xD00 } else { 0 };
+    [0xF00 + speed, 0xF00 + tempo, again, 0, 0, 0, 0, 0]
 }
 
 /// Puts a note and its sample on the row's channel.
 fn put(draft: &mut Draft, row: usize, channel: usize, note: Note, effect: u32) {
-    let place = 4 * row + channel;
+    let place = draft.channels() * row + channel;
     draft.headers[place] = note.header;
     draft.put(0, row, channel, place as u32 + 1, note.period, effect);
 }

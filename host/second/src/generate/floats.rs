@@ -57,7 +57,7 @@ fn float(random: &mut Random) -> f32 {
 /// A valid module of two looped samples, one the other's opposite, that mostly start together.
 pub fn opposite(seed: u64) -> Vec<u8> {
     let mut random = Random::new(seed);
-    let mut draft = Draft::empty();
+    let mut draft = Draft::any(&mut random);
     let bytes = loud_bytes(&mut random);
     let opposites: Vec<u8> = bytes.iter().map(|byte| byte.wrapping_neg()).collect();
     let words = bytes.len() as u32 / 2;

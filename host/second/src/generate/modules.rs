@@ -23,7 +23,7 @@ pub fn module(seed: u64, size: Size) -> Vec<u8> {
 
 /// A valid module, not yet written out.
 pub fn draft(random: &mut Random, size: Size) -> Draft {
-    let mut draft = Draft::empty();
+    let mut draft = Draft::any(random);
     fill_names(random, &mut draft);
     let favourites = favourites(random);
     fill_samples(random, &mut draft, size, &favourites);

@@ -3,7 +3,7 @@
 use super::{cells, Random};
 use crate::module::Module;
 use crate::state::{Channel, State, CHANNEL_CELLS, SONG_CELLS, TREMOLO, VIBRATO, VOICE};
-use crate::voice::Voice;
+use crate::voice::{Voice, CHANNELS};
 use crate::wave::{Wave, LAST_MEMORY, PLACES, SQUARE};
 use crate::STATE_CELLS;
 
@@ -35,10 +35,13 @@ pub fn illegal_state(seed: u64, file: &[u8]) -> [u32; STATE_CELLS] {
     let mut cells = legal_state(random.number(), file);
     let channel = random.below(module.channels) as usize;
     let own = &mut cells[SONG_CELLS + CHANNEL_CELLS * channel..][..CHANNEL_CELLS];
-    match random.below(4) {
+    match random.below(5) {
         0 => break_channel(&mut random, own),
         1 => break_wave(&mut random, own),
         2 => break_voice(&mut random, &module, &mut own[VOICE..]),
+        3 if module.channels < CHANNELS as u32 => {
+            fill_past(&mut random, &mut cells, module.channels)
+        }
         _ => break_song(&mut random, &mut cells, module.song_length),
     }
     cells
@@ -190,6 +193,26 @@ fn break_wave(random: &mut Random, cells: &mut [u32]) {
         2 => cells[wave + 2] = past(random, PLACES),
         _ => cells[wave + 3] = past(random, SQUARE + 1),
     }
+}
+
+/// Makes a channel past the module's other than fresh: all of it as one of the module's, or one of
+/// its numbers, mostly to what the module's may have.
+fn fill_past(random: &mut Random, cells: &mut [u32; STATE_CELLS], channels: u32) {
+    let own = |channel: u32| SONG_CELLS + CHANNEL_CELLS * channel as usize;
+    let filled = own(random.below(channels));
+    let filled = filled..filled + CHANNEL_CELLS;
+    let past = own(random.between(channels, CHANNELS as u32 - 1));
+    let past = past..past + CHANNEL_CELLS;
+    if random.chance(30) && cells[filled.clone()] != cells[past.clone()] {
+        cells.copy_within(filled, past.start);
+        return;
+    }
+    let cell = &mut cells[past][random.below(CHANNEL_CELLS as u32) as usize];
+    // Only the flag of a stopped voice is 1.
+    *cell = match *cell {
+        0 => random.pick(&[1, 1, 1, 2, 15, 31, 64, 113, 428, 856, u32::MAX]),
+        _ => random.pick(&[0, 2]),
+    };
 }
 
 fn break_voice(random: &mut Random, module: &Module, cells: &mut [u32]) {

@@ -2,28 +2,35 @@
 
 use super::{cells, Random};
 use crate::module::Module;
+use crate::records::COUNTED;
+use crate::voice::CHANNELS;
 
 pub use super::bad_streams::bad_stream;
 
 /// A channel's sample, volume and two period bytes.
-type Registers = [[u8; 4]; 4];
+type Registers = [[u8; 4]; CHANNELS];
 
-/// What the records of one stream are drawn from, and the tempo and registers so far.
+/// A stream's version and channels, what its records are drawn from, and the tempo and registers so
+/// far.
 pub(super) struct Writer {
+    pub(super) version: u8,
+    pub(super) channels: u32,
     sounding: Vec<u8>,
     tempo: u8,
     pub(super) registers: Registers,
 }
 
-/// A legal stream of either version that often sets bits without change; `file` is accepted.
+/// A legal stream, of any version where the module has four channels, that often sets bits without
+/// change; `file` is accepted.
 pub fn legal_stream(seed: u64, file: &[u8]) -> Vec<u8> {
     let mut random = Random::new(seed);
+    let mut writer = writer(&mut random, file);
     let records = match random.below(10) {
         0 => empty_records(&mut random),
         1 => Vec::new(),
-        _ => some_records(&mut random, &mut writer(file)),
+        _ => some_records(&mut random, &mut writer),
     };
-    assemble(&mut random, &records, records.len() as u32)
+    assemble(&writer, &records, records.len() as u32)
 }
 
 /// The same ticks of a translated stream, which is of version 3, in an older version.
@@ -74,7 +81,7 @@ pub fn first_tick(seed: u64, ticks: u32) -> u32 {
     }
 }
 
-pub(super) fn writer(file: &[u8]) -> Writer {
+pub(super) fn writer(random: &mut Random, file: &[u8]) -> Writer {
     let module = Module::read(file).expect("the file is accepted");
     let mut sounding = Vec::new();
     for number in 1..=31 {
@@ -82,16 +89,37 @@ pub(super) fn writer(file: &[u8]) -> Writer {
             sounding.push(number as u8);
         }
     }
+    let version = match module.channels {
+        4 => random.pick(&[1, 2, COUNTED, COUNTED]),
+        _ => COUNTED,
+    };
     Writer {
+        version,
+        channels: module.channels,
         sounding,
         tempo: 125,
-        registers: [[0; 4]; 4],
+        registers: [[0; 4]; CHANNELS],
     }
 }
 
-pub(super) fn assemble(random: &mut Random, records: &[Vec<u8>], count: u32) -> Vec<u8> {
-    let mut stream = vec![0, 0, 0, 0, random.pick(&[1, 2, 2])];
-    stream.extend_from_slice(&count.to_be_bytes());
+/// The bytes before the first record.
+fn head(writer: &Writer, count: u32) -> Vec<u8> {
+    let mut head = vec![0, 0, 0, 0, writer.version];
+    if writer.version == COUNTED {
+        head.push(writer.channels as u8);
+    }
+    head.extend_from_slice(&count.to_be_bytes());
+    head
+}
+
+/// Where the record of this number begins.
+pub(super) fn place_of(writer: &Writer, records: &[Vec<u8>], number: usize) -> u64 {
+    let before: usize = records[..number].iter().map(Vec::len).sum();
+    (head(writer, 0).len() + before) as u64
+}
+
+pub(super) fn assemble(writer: &Writer, records: &[Vec<u8>], count: u32) -> Vec<u8> {
+    let mut stream = head(writer, count);
     for record in records {
         stream.extend_from_slice(record);
     }
@@ -114,7 +142,7 @@ fn empty_records(random: &mut Random) -> Vec<Vec<u8>> {
 pub(super) fn some_records(random: &mut Random, writer: &mut Writer) -> Vec<Vec<u8>> {
     let mut records = Vec::new();
     for _ in 0..random.between(1, 30) {
-        let mask = random.below(16) as u8;
+        let mask = random.below(1 << writer.channels) as u8;
         records.push(record(random, writer, mask));
     }
     records
@@ -126,7 +154,7 @@ pub(super) fn record(random: &mut Random, writer: &mut Writer, mask: u8) -> Vec<
         writer.tempo = random.edge_or(&[32, 33, 125, 254, 255], 32, 255) as u8;
     }
     let mut record = vec![mask, writer.tempo];
-    for channel in 0..4 {
+    for channel in 0..CHANNELS {
         if mask >> channel & 1 == 1 {
             record.extend_from_slice(&command(random, writer, channel));
         }

@@ -40,7 +40,7 @@ const RUNS: [Run; 9] = [
 /// A valid module of one pattern on whose channels waves go through most rows.
 pub fn wavering(seed: u64) -> Vec<u8> {
     let mut random = Random::new(seed);
-    let mut draft = Draft::empty();
+    let mut draft = Draft::any(&mut random);
     add_samples(&mut random, &mut draft);
     for channel in 0..draft.channels() {
         for (row, cell) in draft.rows().zip(column(&mut random)) {

@@ -1,10 +1,15 @@
 //! Modules aimed at the ends of samples meet them as they should, and often.
 
 use second::generate::ends::ends;
-use second::{fresh, judge, trace_tick, End, Trace};
+use second::{channels, fresh, judge, trace_tick, End, Trace, Voice};
 
-/// The other channel of each one's side, from 0.
-const BESIDE: [usize; 4] = [3, 2, 1, 0];
+/// The channels on the left, from 0.
+const LEFT: [usize; 4] = [0, 3, 4, 7];
+
+/// Whether two channels are two of one side.
+fn beside(one: usize, other: usize) -> bool {
+    one != other && LEFT.contains(&one) == LEFT.contains(&other)
+}
 
 type Test = fn(&Met) -> bool;
 
@@ -17,6 +22,7 @@ struct Kind {
 
 /// An end, its tick with all ends in it, and its sample's repeat start and length.
 struct Met<'a> {
+    channels: usize,
     end: End,
     all: &'a [End],
     trace: &'a Trace,
@@ -33,12 +39,21 @@ impl Met<'_> {
         2 * (self.end.frame + 1) == self.trace.frames.len()
     }
 
-    /// Whether the side's other voice has an end this many frames after it.
-    fn followed(&self, apart: usize) -> bool {
-        let beside = BESIDE[self.end.channel];
+    /// How many of the side's other voices have an end this many frames after it.
+    fn followers(&self, apart: usize) -> usize {
         let frame = self.end.frame + apart;
-        let near = |other: &End| other.channel == beside && other.frame == frame;
-        self.all.iter().any(near)
+        let near = |other: &&End| beside(self.end.channel, other.channel) && other.frame == frame;
+        self.all.iter().filter(near).count()
+    }
+
+    fn followed(&self, apart: usize) -> bool {
+        self.followers(apart) > 0
+    }
+
+    /// Whether one of the side's other voices is so.
+    fn has_beside(&self, is: impl Fn(&Voice) -> bool) -> bool {
+        let mut others = (0..self.channels).filter(|&other| beside(self.end.channel, other));
+        others.any(|other| is(&self.trace.voices[other]))
     }
 
     fn period(&self) -> u32 {
@@ -51,7 +66,7 @@ impl Met<'_> {
 }
 
 fn kinds() -> Vec<Kind> {
-    let kinds: [(&str, Test); 17] = [
+    let kinds: [(&str, Test); 21] = [
         ("stops in a tick's first frame", |m| {
             m.end.stops && m.first()
         }),
@@ -61,6 +76,10 @@ fn kinds() -> Vec<Kind> {
         }),
         ("loops in a tick's last frame", |m| !m.end.stops && m.last()),
         ("in one frame with the other", |m| m.followed(0)),
+        ("in one frame with two others", |m| m.followers(0) == 2),
+        ("in one frame with three others", |m| m.followers(0) == 3),
+        ("of six channels", |m| m.channels == 6),
+        ("of eight channels", |m| m.channels == 8),
         ("1 frame before the other", |m| m.followed(1)),
         ("2 frames before the other", |m| m.followed(2)),
         ("3 frames before the other", |m| m.followed(3)),
@@ -74,10 +93,10 @@ fn kinds() -> Vec<Kind> {
         ("at period 113", |m| m.period() == 113),
         ("at period 856", |m| m.period() == 856),
         ("beside volume 0", |m| {
-            m.trace.voices[BESIDE[m.end.channel]].volume == 0
+            m.has_beside(|voice| voice.volume == 0)
         }),
         ("beside a stopped voice", |m| {
-            m.trace.voices[BESIDE[m.end.channel]].stopped
+            m.has_beside(|voice| voice.stopped)
         }),
     ];
     let kind = |(name, is)| Kind { name, is, met: 0 };
@@ -96,6 +115,7 @@ fn count(file: &[u8], trace: &Trace, kinds: &mut [Kind]) {
     for &end in &all {
         let (start, repeat) = repeats(file, trace.voices[end.channel].sample);
         let met = Met {
+            channels: channels(file) as usize,
             end,
             all: &all,
             trace,
@@ -111,7 +131,7 @@ fn count(file: &[u8], trace: &Trace, kinds: &mut [Kind]) {
 #[test]
 fn aimed_ends_are_met_often() {
     let mut kinds = kinds();
-    for seed in 0..400 {
+    for seed in 0..600 {
         let file = ends(seed);
         assert_eq!(judge(&file).number, 0, "seed {seed}");
         let mut cells = fresh();

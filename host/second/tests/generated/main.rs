@@ -2,6 +2,7 @@
 
 mod breaks;
 mod bursts;
+mod channels;
 mod common;
 mod ends;
 mod floats;

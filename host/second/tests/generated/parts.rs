@@ -62,7 +62,7 @@ fn any_played(seed: u64, ticks: u32) -> Played {
     };
     let bytes = match seed % 4 {
         0 | 1 => legal_stream(seed, &file),
-        _ if seed % 3 == 0 => older(&translated(&file, ticks), 1),
+        _ if seed.is_multiple_of(3) && channels(&file) == 4 => older(&translated(&file, ticks), 1),
         _ => translated(&file, ticks),
     };
     played(file, bytes)

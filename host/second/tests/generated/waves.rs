@@ -492,11 +492,12 @@ fn waves<'a>(file: &[u8], cells: &'a Cells) -> Vec<&'a [u32]> {
 
 #[test]
 fn legal_states_hold_any_wave() {
-    let mut seen = [[0; 64]; 32];
-    for seed in 0..6_000 {
-        let file = wavering(seed % 20);
-        let cells = legal_state(seed, &file);
-        for (wave, numbers) in waves(&file, &cells).into_iter().enumerate() {
+    let mut seen = [[0; 64]; 64];
+    let files: Vec<Vec<u8>> = (0..200).map(wavering).collect();
+    for seed in 0..20_000 {
+        let file = &files[seed as usize % files.len()];
+        let cells = legal_state(seed, file);
+        for (wave, numbers) in waves(file, &cells).into_iter().enumerate() {
             for (number, &held) in numbers.iter().enumerate() {
                 seen[4 * wave + number][held as usize] += 1;
             }
@@ -512,12 +513,13 @@ fn legal_states_hold_any_wave() {
 #[test]
 fn illegal_states_break_each_number_of_a_wave_alone() {
     // For each wave's numbers, how often the one past the last, and how often a huge one.
-    let mut seen = [[0; 2]; 32];
-    for seed in 0..8_000 {
-        let file = wavering(seed % 20);
-        let cells = illegal_state(seed, &file);
+    let mut seen = [[0; 2]; 64];
+    let files: Vec<Vec<u8>> = (0..200).map(wavering).collect();
+    for seed in 0..60_000 {
+        let file = &files[seed as usize % files.len()];
+        let cells = illegal_state(seed, file);
         let mut wrong = 0;
-        for (wave, numbers) in waves(&file, &cells).into_iter().enumerate() {
+        for (wave, numbers) in waves(file, &cells).into_iter().enumerate() {
             for (number, (&held, last)) in numbers.iter().zip(LASTS).enumerate() {
                 wrong += u32::from(held > last);
                 seen[4 * wave + number][0] += u32::from(held == last + 1);
@@ -525,7 +527,7 @@ fn illegal_states_break_each_number_of_a_wave_alone() {
             }
         }
         assert!(wrong <= 1, "seed {seed}");
-        let answer = play(&file, &mut cells.clone(), 0, &mut []);
+        let answer = play(file, &mut cells.clone(), 0, &mut []);
         assert_eq!(answer, refused(14, 0), "seed {seed}");
     }
     assert!(
