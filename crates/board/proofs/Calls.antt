@@ -1,4 +1,4 @@
--- What the call goes by: 1 to 9, then 21 to 23, then the play.
+-- What the call goes by: 1 to 9, then 21, 22, 28 and 23, then the play.
 -- Assumes nothing.
 use Prim.Native.Nat.{ℕ}
 use mathlib.Core.Path.{_≡_, ap, subst, _∙_}
@@ -7,7 +7,7 @@ use lib.IntN.{ℤ}
 use Rattle.common.specs.Answers.{refused, outcome}
 use Rattle.common.specs.AnswerLaws.{no-line}
 use Rattle.common.specs.declared.Answer.{Answer}
-use Rattle.reader.specs.File.{lent, fourChannels, moduleOf}
+use Rattle.reader.specs.File.{lent, layoutOf, moduleOf}
 use Rattle.reader.specs.Judge.{verdict}
 use Rattle.reader.specs.Accept.{accepted-by, module-given, module-passed}
 use Rattle.reader.specs.declared.Layout.{Layout}
@@ -16,7 +16,7 @@ use Rattle.records.specs.Format.{keeps, Decoded, refusal, ticks, decode}
 use Rattle.decoder.specs.Answers.{answerOf}
 use Rattle.board.specs.Board.{playedBy, boardOf, playStreamFromOf}
 
-module _ (layout : Layout) (bytes s : List ℕ) (first : ℕ) (out : List ℤ) (v : Answer) (e : v ≡ verdict (lent layout bytes)) (le : layout ≡ fourChannels) where
+module _ (layout : Layout) (bytes s : List ℕ) (first : ℕ) (out : List ℤ) (v : Answer) (e : v ≡ verdict (lent layout bytes)) (le : layout ≡ layoutOf bytes) where
   here : v ≡ verdict (moduleOf bytes)
   here = subst (λ (l : Layout). v ≡ verdict (lent l bytes)) le e
 

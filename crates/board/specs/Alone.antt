@@ -1,4 +1,4 @@
--- Tick lengths and frames follow from the stream's bytes and the samples with their lengths and loops alone, never from patterns or table (`same-samples`).
+-- Tick lengths and frames follow from the stream's bytes and the samples with their lengths and loops alone, never from patterns or table (`same-samples`, `same-accepted`).
 -- Assumes nothing.
 use Prim.Native.Nat.{ℕ, zero, suc, _-_, _≤_}
 use mathlib.Core.Path.{_≡_, refl, sym, ap, ap₂, _∙_}
@@ -28,6 +28,7 @@ use Rattle.machine.specs.Kept.{frames-same, after-same}
 use Rattle.records.specs.Format.{keeps, atFirst, Decoded, refusal, ticks, decode}
 use Rattle.records.specs.Registers.{first-long}
 use Rattle.records.specs.Decoded.{stream-of}
+use Rattle.decoder.specs.Remaining.{Good}
 use Rattle.board.specs.Board.{ledTo, playedTicks, playedBy, boardOf, playStreamFromOf}
 
 -- ---- two machines that play legal ticks alike, of any kind of frames
@@ -124,15 +125,29 @@ module _ (last c : ℕ) (room : c ≤ width) (samples others : ℕ → Sample) (
       go (refusal number place) e = refl
       go (ticks ts) e = played-same (keeps stream) last c room samples others same (soundingOf atFirst) (length-sounding atFirst ∙ first-long) first ts out (stream-of last c stream ts e .legal)
 
--- two accepted files with equal samples give equal frames, and equal answers, for every stream, tick to begin with and output
+-- a stream that is accepted is for one number of channels
+pub one-count : (last c last′ c′ : ℕ) (stream : List ℕ) (ts ts′ : List Tick) → decode last c stream ≡ ticks ts → decode last′ c′ stream ≡ ticks ts′ → c ≡ c′
+one-count last c last′ c′ stream ts ts′ e e′ = sym (stream-of last c stream ts e .channels) ∙ stream-of last′ c′ stream ts′ e′ .channels
+
+-- two accepted files of as many channels with equal samples give equal frames, and equal answers, for every stream, tick to begin with and output
 pub same-samples : (bytes bytes′ : List ℕ) → verdict (moduleOf bytes) .number ≡ 0 → verdict (moduleOf bytes′) .number ≡ 0
+    → channelCount (moduleOf bytes) ≡ channelCount (moduleOf bytes′)
     → ((k : ℕ) → k ≤ sampleCount (moduleOf bytes) → sampleOf (moduleOf bytes) k ≡ sampleOf (moduleOf bytes′) k)
     → (stream : List ℕ) (first : ℕ) (out : List ℤ) → playStreamFromOf bytes stream first out ≡ playStreamFromOf bytes′ stream first out
 unfolding playStreamFromOf refusing
-same-samples bytes bytes′ e e′ same stream first out =
+same-samples bytes bytes′ e e′ count same stream first out =
     let m = moduleOf bytes in
     let m′ = moduleOf bytes′ in
     rw (e, e′)
     (board-same (sampleCount m) (channelCount m) (module-legal bytes .channels) (samplesOf m) (samplesOf m′)
     (λ k h. sample-is m (module-legal bytes .samples) (extentsOf m) refl k h ∙ (same k h ∙ sym (sample-is m′ (module-legal bytes′ .samples) (extentsOf m′) refl k h)))
-    first stream out)
+    first stream out
+    ∙ ap (λ (c : ℕ). boardOf (sampleCount m) c (samplesOf m′) first stream out) count)
+
+-- a stream that both accept gives equal frames with equal samples: as many channels they have then
+pub same-accepted : (bytes bytes′ stream : List ℕ) → verdict (moduleOf bytes) .number ≡ 0 → verdict (moduleOf bytes′) .number ≡ 0
+    → Good (sampleCount (moduleOf bytes)) (channelCount (moduleOf bytes)) stream → Good (sampleCount (moduleOf bytes′)) (channelCount (moduleOf bytes′)) stream
+    → ((k : ℕ) → k ≤ sampleCount (moduleOf bytes) → sampleOf (moduleOf bytes) k ≡ sampleOf (moduleOf bytes′) k)
+    → (first : ℕ) (out : List ℤ) → playStreamFromOf bytes stream first out ≡ playStreamFromOf bytes′ stream first out
+same-accepted bytes bytes′ stream e e′ g g′ same first out =
+    same-samples bytes bytes′ e e′ (one-count _ _ _ _ stream (g .its) (g′ .its) (g .is) (g′ .is)) same stream first out

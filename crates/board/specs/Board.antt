@@ -28,7 +28,7 @@ playedTicks keeping channels samples first ts out =
     outcome (accepted (fit (mechanism keeping channels samples) (length out) (ledTo keeping channels samples first ts) (drop first ts)))
     (playOut (mechanism keeping channels samples) (ledTo keeping channels samples first ts) (drop first ts) out)
 
--- 21 to 23, where the buffer stays; otherwise the stream's ticks
+-- 21, 22, 28 and 23, where the buffer stays; otherwise the stream's ticks
 unfoldable pub playedBy : Bool → ℕ → (ℕ → Sample) → ℕ → Decoded → List ℤ → Outcome Answer ℤ
 playedBy keeping channels samples first (refusal number place) out = outcome (refused number place) out
 playedBy keeping channels samples first (ticks ts) out = playedTicks keeping channels samples first ts out

@@ -12,7 +12,7 @@ use Rattle.common.specs.Answers.{accepted, outcome, refusing}
 use Rattle.common.specs.Bytes.{byteAt}
 use Rattle.ticks.specs.declared.Tick.{Tick}
 use Rattle.ticks.specs.Play.{afterAll, rendered, fit, playOut}
-use Rattle.reader.specs.File.{moduleOf}
+use Rattle.reader.specs.File.{moduleOf, channelCount}
 use Rattle.reader.specs.Judge.{verdict}
 use Rattle.reader.specs.Samples.{Sample}
 use Rattle.voice.specs.Frames.{frameNumbers}
@@ -58,10 +58,10 @@ pub old-throughout : (c : ℕ) (samples : ℕ → Sample) (s : List ℕ) → byt
 unfolding keeps freshMachine
 old-throughout c samples s e ts = rw (eq-eqb (byteAt s versionPlace) firstVersion e) (rest-none c samples freshMachine ts refl)
 
--- the paper's two whole streams are accepted with any module, and their tick is played where its 960 frames fit
-pub first-played : (bytes : List ℕ) (out : List ℤ) → verdict (moduleOf bytes) .number ≡ 0 → frameNumbers * (tickFrames / 125) ≤ length out
+-- the paper's two whole streams are accepted with any module of four channels, and their tick is played where its 960 frames fit
+pub first-played : (bytes : List ℕ) (out : List ℤ) → verdict (moduleOf bytes) .number ≡ 0 → channelCount (moduleOf bytes) ≡ 4 → frameNumbers * (tickFrames / 125) ≤ length out
     → (playStreamOf bytes (emptyStream 0x01) out .reply ≡ accepted 1) × (playStreamOf bytes (noteStream 0x01) out .reply ≡ accepted 1)
 unfolding playStreamFromOf refusing playedBy playedTicks ledTo afterAll fit tickLength begins carriedAt lengthAt freshMachine
-first-played bytes out e h =
+first-played bytes out e c h =
     let fits = le-leb (frameNumbers * (tickFrames / 125)) (length out) h in
-    (rw (eq-eqb (verdict (moduleOf bytes) .number) 0 e, first-streams .0, sized, fits), rw (eq-eqb (verdict (moduleOf bytes) .number) 0 e, first-streams .1, sized, fits))
+    (rw (eq-eqb (verdict (moduleOf bytes) .number) 0 e, c, first-streams .0, sized, fits), rw (eq-eqb (verdict (moduleOf bytes) .number) 0 e, c, first-streams .1, sized, fits))

@@ -11,7 +11,6 @@ use lib.Seq.{take-add, drop-drop, take-nil, drop-nil}
 use borrow.Author.Tests.{ltb-true, ltb-false}
 use Rattle.laws.specs.Choice.{either}
 use Rattle.laws.specs.Each.{getD-each}
-use Rattle.common.specs.Bytes.{fourAt}
 use Rattle.common.specs.Limits.{width, greatestTempo}
 use Rattle.ticks.specs.declared.Command.{Command}
 use Rattle.ticks.specs.declared.Tick.{Tick}
@@ -31,7 +30,7 @@ use Rattle.voice.specs.LegalFacts.{Ready}
 use Rattle.machine.specs.declared.Machine.{Machine}
 use Rattle.machine.specs.Machine.{freshMachine, after, mechanism}
 use Rattle.machine.specs.Kept.{machine-fresh, after-voices, after-sample, after-below}
-use Rattle.records.specs.Format.{countPlace, recordsPlace, atFirst, readRecord, ticks, decode}
+use Rattle.records.specs.Format.{tickCount, firstRecord, atFirst, readRecord, ticks, decode}
 use Rattle.records.specs.Registers.{first-long, first-at}
 use Rattle.decoder.specs.declared.Record.{Record}
 use Rattle.decoder.specs.Answers.{asRecord}
@@ -80,13 +79,13 @@ pub record Led (m : Module) (s : List ℕ) (keeping : Bool) (first : ℕ) (w : M
 pub record Leading (layout : Layout) (bytes s : List ℕ) (extents : List Extent) (last n : ℕ) (keeping : Bool) (w : Machine) (registers : List Command) (from i : ℕ) : Type 0 where
   pub table : extents ≡ extentsOf (lent layout bytes)
   pub least : last ≡ layout .samples
-  pub few : n ≤ fourAt s countPlace
+  pub few : n ≤ tickCount s
   pub most : i ≤ n
   pub its : List Tick
   pub is : decode (layout .samples) (layout .channels) s ≡ ticks its
   pub machine : w ≡ ledTo keeping (layout .channels) (samplesOf (lent layout bytes)) i its
   pub below : (w .remainder < w .tempo) × (w .tempo ≤ greatestTempo)
-  pub going : Going (lent layout bytes) s (fourAt s countPlace) (w .voices) registers from i (drop i its)
+  pub going : Going (lent layout bytes) s (tickCount s) (w .voices) registers from i (drop i its)
 
 -- the shorter of two numbers
 abbrev pub shorter : ℕ → ℕ → ℕ
@@ -99,12 +98,12 @@ module _ (layout : Layout) (bytes s : List ℕ) (extents : List Extent) (last n 
   abbrev m : Module
   m = lent layout bytes
 
-  pub leading-none : (first count : ℕ) (w : Machine) (registers : List Command) → LegalLayout layout → verdict m .number ≡ 0 → Good (layout .samples) (layout .channels) s → extents ≡ extentsOf m → last ≡ layout .samples → count ≡ fourAt s countPlace → n ≡ shorter first count → w ≡ freshMachine → registers ≡ atFirst
-      → Leading layout bytes s extents last n keeping w registers recordsPlace 0
+  pub leading-none : (first count from : ℕ) (w : Machine) (registers : List Command) → LegalLayout layout → verdict m .number ≡ 0 → Good (layout .samples) (layout .channels) s → extents ≡ extentsOf m → last ≡ layout .samples → count ≡ tickCount s → n ≡ shorter first count → w ≡ freshMachine → registers ≡ atFirst → from ≡ firstRecord s
+      → Leading layout bytes s extents last n keeping w registers from 0
   unfolding ledTo afterAll
-  leading-none first count w registers y e g t l z q f r =
-      let d : fourAt s countPlace - 0 ≡ fourAt s countPlace = omega arith in
-      rw (f, r)
+  leading-none first count from w registers y e g t l z q f r o =
+      let d : tickCount s - 0 ≡ tickCount s = omega arith in
+      rw (f, r, o)
       (record {
         table = t;
         least = l;
@@ -136,7 +135,7 @@ module _ (layout : Layout) (bytes s : List ℕ) (extents : List Extent) (last n 
     leading-low = omega (arith, g .below .0, g .below .1)
 
     module _ (h : i < n) (r : Record) (q : r ≡ asRecord registers from (readRecord last (layout .channels) s from registers)) where
-      early : i < fourAt s countPlace
+      early : i < tickCount s
       early = omega (arith, g .few)
 
       record-is : r ≡ asRecord registers from (readRecord (layout .samples) (layout .channels) s from registers)
@@ -167,7 +166,7 @@ module _ (layout : Layout) (bytes s : List ℕ) (extents : List Extent) (last n 
           }
 
     -- it is there, or no tick is left
-    pub leading-end : n ≤ i → (first count left : ℕ) → count ≡ fourAt s countPlace → count < 2 ^ 32 → n ≡ shorter first count → left ≡ count - n → Led m s keeping first w registers from left
+    pub leading-end : n ≤ i → (first count left : ℕ) → count ≡ tickCount s → count < 2 ^ 32 → n ≡ shorter first count → left ≡ count - n → Led m s keeping first w registers from left
     leading-end h first count left z f q e =
         let here : i ≡ n = omega (arith, g .most) in
         record {

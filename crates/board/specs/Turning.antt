@@ -28,7 +28,7 @@ use Rattle.machine.specs.Turn.{turn, turnOf}
 use Rattle.machine.specs.Turns.{turn-machine}
 use Rattle.machine.specs.Kept.{after-below}
 use Rattle.machine.specs.Carries.{Holds, holds-carries}
-use Rattle.records.specs.Format.{recordsPlace, readRecord}
+use Rattle.records.specs.Format.{leastPlace, firstRecord, readRecord}
 use Rattle.records.specs.Decoded.{stream-of}
 use Rattle.decoder.specs.declared.Record.{Record}
 use Rattle.decoder.specs.Answers.{asRecord}
@@ -37,8 +37,11 @@ use Rattle.board.specs.Going.{next-tempo, next-most, next-ready}
 use Rattle.board.specs.Leading.{Led}
 use Rattle.board.specs.Streaming.{Streaming, streaming-none, streamed-all, streamed-full, full-long, streaming-more}
 
-pub good-long : (last c : ℕ) (s : List ℕ) → Good last c s → recordsPlace ≤ length s
+pub good-long : (last c : ℕ) (s : List ℕ) → Good last c s → firstRecord s ≤ length s
 good-long last c s g = stream-of last c s (g .its) (g .is) .long
+
+pub good-least : (last c : ℕ) (s : List ℕ) → Good last c s → leastPlace ≤ length s
+good-least last c s g = omega (arith, good-long last c s g)
 
 -- ---- the loop
 -- it runs, with the table of extents, the version's rule, a buffer of the machine's width, and a remainder below a legal tempo; its ticks are those of the count from where it began

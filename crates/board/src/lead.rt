@@ -50,7 +50,7 @@ pub fn lead(
     let n = least(first, count);
     let mut machine = machine::fresh();
     let mut registers = records::at_first();
-    let mut from = records::RECORDS_PLACE;
+    let mut from = decoder::first_record(stream);
     let mut i = 0;
     while i < n {
         let next = decoder::read_record(last, layout.channels, stream, from, registers);

@@ -59,7 +59,7 @@ fn play_records(layout: Layout, file: &[u8], stream: &[u8], first: usize, out: &
 pub fn play_stream_from(stream: &[u8], file: &[u8], first: usize, out: &mut [i16]) -> Answer
     ensures { λ r. ⌜ outcome r (now (out .exit)) ≡ playStreamFromOf (now (file .entry)) (now (stream .entry)) first (now (out .entry)) ⌝ }
 {
-    let layout = reader::offsets::four_channels();
+    let layout = reader::offsets::layout_of(file);
     let judged = reader::judge_by(layout, file);
     if judged.number != 0 {
         return common::refuse(judged.number, judged.place);

@@ -1,6 +1,7 @@
 // The C library: each public call on plain numbers and slices. An answer is number, place and count; number 0 is accepted. A state is
 // its cells, and any numbers may stand in them.
 ghost use mathlib.Core.Path.{_≡_};
+ghost use Rattle.reader.specs.File.{channelCount, moduleOf};
 ghost use Rattle.reader.specs.Judge.{judgeOf};
 ghost use Rattle.player.specs.State.{freshState};
 ghost use Rattle.player.specs.Play.{playOf};
@@ -24,7 +25,7 @@ use replies::put_reply;
 use replies::why_answer;
 
 // Major times 1,000,000, plus minor times 1,000, plus patch.
-const VERSION: u32 = 5000;
+const VERSION: u32 = 6000;
 
 // The version of the library that is linked.
 #[no_mangle]
@@ -40,6 +41,15 @@ pub extern "C" fn lampthistle_judge(file: &[u8], answer: &mut [u64; ANSWER_CELLS
     ensures { λ _. ⌜ now (answer .exit) ≡ answerCells (judgeOf (now (file .entry))) ⌝ }
 {
     put_answer(reader::judge(file), answer);
+}
+
+// How many channels a file has by its tag, 0 where it has no tag that is known.
+#[no_mangle]
+pub extern "C" fn lampthistle_channels(file: &[u8]) -> u32
+    ensures { λ r. ⌜ r ≡ channelCount (moduleOf (now (file .entry))) ⌝ }
+{
+    let layout = reader::offsets::layout_of(file);
+    layout.channels as u32
 }
 
 // Writes the fresh state.

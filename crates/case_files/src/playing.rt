@@ -105,7 +105,7 @@ fn play_tick(file: &[u8], state: State) -> State {
     let reply = player::play(file, state, 1, &mut out);
     let after = reply.state;
     let voices = after.voices;
-    let layout = reader::offsets::four_channels();
+    let layout = reader::offsets::layout_of(file);
     let size = tick_size(
         state.song.time.tempo,
         state.remainder,

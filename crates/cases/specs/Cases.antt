@@ -8,10 +8,11 @@ use lib.IntN.{ℤ, pos, negℤ}
 use lib.ListN.{getD, replicate}
 use Rattle.laws.specs.Ranges.{each, partly, every, all, allFrom, some, total, largest}
 use Rattle.ticks.specs.Commands.{nothing}
+use Rattle.common.specs.Bytes.{fourAt}
 use Rattle.common.specs.Answers.{refused, accepted, refusing}
 use Rattle.ticks.specs.declared.Command.{Command}
 use Rattle.reader.specs.declared.Cell.{Cell}
-use Rattle.reader.specs.File.{Module, moduleOf, songLength, channelCount, patternsOf, samplePlace}
+use Rattle.reader.specs.File.{Module, moduleOf, songLength, channelCount, channelsOf, patternsOf, samplePlace}
 use Rattle.reader.specs.Judge.{cellLines, restLines, verdict, tagged, badLength, badEntry, badVolume, badLoop, badNumberAt, badPeriodAt, badAt}
 use Rattle.reader.specs.Cells.{cellFrom, cellAt}
 use Rattle.reader.specs.Samples.{extentOf}
@@ -70,7 +71,7 @@ abbrev pub module1 : Module
 module1 = moduleOf file
 
 file-accepted : verdict module1 .number ≡ 0
-unfolding header row bytes file verdict restLines cellLines refusing some total largest patternsOf samplePlace tagged badLength badEntry badVolume badLoop badNumberAt badPeriodAt badAt
+unfolding header row bytes file channelsOf fourAt verdict restLines cellLines refusing some total largest patternsOf samplePlace tagged badLength badEntry badVolume badLoop badNumberAt badPeriodAt badAt
 file-accepted = refl
 
 -- ---- what the cases are about
@@ -138,14 +139,14 @@ pub record Cases : Type 0 where
 
 -- ---- the claim
 clock3-legal : legalState module1 clock3 ≡ true
-unfolding header row bytes file clock3 every each all allFrom freshSong legalPlace legalLoop legalCourse legalTime legalOrFresh legalAt legalSong legalChannel isFresh legalWave isFreshWave legalIndex legalVoice isFreshVoice legalUsedVoice legalVoices freshState legalState
+unfolding header row bytes file channelsOf fourAt clock3 every each all allFrom freshSong legalPlace legalLoop legalCourse legalTime legalOrFresh legalAt legalSong legalChannel isFresh legalWave isFreshWave legalIndex legalVoice isFreshVoice legalUsedVoice legalVoices freshState legalState
 clock3-legal = refl
 
 touch-number : (made : ℕ) → touchMade made ≡ refusing (λ number place. reply (refused number place) clock3) (reply (accepted 0) (withSong clock3 (touchedAt (clock3 .song) 0))) (touchLines (songLength module1) (clock3 .song .desk) 0 made 0) .answer .number
 touch-number made = ap (λ (r : Reply). r .answer .number) (touch-judged file file-accepted clock3 clock3-legal 0 made 0)
 
 pub cases : Cases
-unfolding header row bytes file left clock3 refusing each partly
+unfolding header row bytes file channelsOf fourAt left clock3 refusing each partly
     total largest patternsOf samplePlace cellFrom cellAt extentOf
     isPortamento isNote vibrates trembles moved lowered towards periods above semitones arpeggio transposed arpeggiated soundedPeriod soundedVolume givenPeriod rowPeriod rowChannel slidesVolume tickVolume tickPeriod tickChannel worked afterSound voicedBy voiced
     rowSpeed rowDelay rowLoop rowMove rowTime rowFlow flowFrom flowThrough freshSong nextOf courseBy songBy songWork voicedOn allVoiced nextTick timeTo courseTo deskAfter advanced tickWith tickOf songAfter

@@ -6,7 +6,7 @@ use lib.Dec.{eqb, leb, ltb}
 
 -- how many channels arrays have room for; a file may have fewer
 abbrev pub width : ℕ
-width = 4
+width = 8
 
 -- how many sample numbers there are, with 0 for none; a file may have fewer
 abbrev pub sampleNumbers : ℕ

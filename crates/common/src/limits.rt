@@ -3,7 +3,7 @@ ghost use mathlib.Core.Path.{_≡_};
 ghost use Rattle.common.specs.Limits.{between, legalPeriod};
 
 // How many channels arrays have room for. A file may have fewer.
-pub const WIDTH: usize = 4;
+pub const WIDTH: usize = 8;
 
 // How many sample numbers there are, with 0 for none. A file may have fewer.
 pub const SAMPLE_NUMBERS: usize = 32;

@@ -13,7 +13,7 @@ use Rattle.common.specs.Answers.{refused, accepted, refusing}
 use Rattle.common.specs.declared.Answer.{Answer}
 use Rattle.ticks.specs.declared.Command.{Command}
 use Rattle.ticks.specs.declared.Tick.{Tick}
-use Rattle.records.specs.Format.{versionPlace, countPlace, recordsPlace, headBytes, tempoPlace, knownVersion, atFirst, Read, bad, readOn, readChannels, readTick, readRecord, Decoded, refusal, ticks, withTick, decodeRecords, decodeAfter, decode}
+use Rattle.records.specs.Format.{versionPlace, leastPlace, headBytes, tempoPlace, knownVersion, versionOf, streamChannels, tickCount, firstRecord, atFirst, Read, bad, readOn, readChannels, readTick, readRecord, Decoded, refusal, ticks, withTick, decodeRecords, decodeAfter, decode}
 use Rattle.records.specs.Reads.{flag-read, flag-bad}
 use Rattle.decoder.specs.declared.ChannelsRead.{ChannelsRead}
 use Rattle.decoder.specs.declared.Record.{Record}
@@ -57,17 +57,17 @@ answer-with t (refusal number place) = refl
 answer-with t (ticks ts) = refl
 
 -- the answer of what is left is the whole's
-pub record Checked (last c : ℕ) (s : List ℕ) (count : ℕ) (registers : List Command) (at left : ℕ) : Type 0 where
+pub record Checked (last c : ℕ) (s : List ℕ) (count first : ℕ) (registers : List Command) (at left : ℕ) : Type 0 where
   pub few : c ≤ width
-  pub whole : answerOf (decodeRecords last c s count recordsPlace atFirst) ≡ answerOf (decodeRecords last c s left at registers)
+  pub whole : answerOf (decodeRecords last c s count first atFirst) ≡ answerOf (decodeRecords last c s left at registers)
 
-module _ (last c : ℕ) (s : List ℕ) (count : ℕ) where
-  pub checked-none : (registers : List Command) → c ≤ width → registers ≡ atFirst → Checked last c s count registers recordsPlace count
+module _ (last c : ℕ) (s : List ℕ) (count first : ℕ) where
+  pub checked-none : (registers : List Command) → c ≤ width → registers ≡ atFirst → Checked last c s count first registers first count
   checked-none registers h e = record { few = h; whole = rw e }
 
-  module _ (registers : List Command) (at left : ℕ) (w : Checked last c s count registers at left) where
+  module _ (registers : List Command) (at left : ℕ) (w : Checked last c s count first registers at left) where
     module _ (pos : 0 < left) (r : Record) (e : r ≡ asRecord registers at (readRecord last c s at registers)) where
-      pub checked-more : not (r .ok) ≡ false → Checked last c s count (r .tick .commands) (r .next) (left - 1)
+      pub checked-more : not (r .ok) ≡ false → Checked last c s count first (r .tick .commands) (r .next) (left - 1)
       unfolding readOn
       checked-more t =
           record {
@@ -75,7 +75,7 @@ module _ (last c : ℕ) (s : List ℕ) (count : ℕ) where
             whole = w .whole ∙ rw (next-record last c s left at registers pos, record-read registers at (readRecord last c s at registers) r e (not-false (r .ok) t)) (answer-with (r .tick) (decodeRecords last c s (left - 1) (r .next) (r .tick .commands)));
           }
 
-      pub checked-bad : not (r .ok) ≡ true → (a : Answer) → a ≡ refused 23 at → a ≡ answerOf (decodeRecords last c s count recordsPlace atFirst)
+      pub checked-bad : not (r .ok) ≡ true → (a : Answer) → a ≡ refused 23 at → a ≡ answerOf (decodeRecords last c s count first atFirst)
       unfolding answerOf readOn
       checked-bad t a q = q ∙ sym (w .whole ∙ rw (next-record last c s left at registers pos, record-unread registers at (readRecord last c s at registers) r e (not-true (r .ok) t)))
 
@@ -83,30 +83,44 @@ module _ (last c : ℕ) (s : List ℕ) (count : ℕ) where
       done : left ≡ 0
       done = omega arith
 
-      pub checked-over : (at ≡ length s → ⊥) → (a : Answer) → a ≡ refused 23 at → a ≡ answerOf (decodeRecords last c s count recordsPlace atFirst)
+      pub checked-over : (at ≡ length s → ⊥) → (a : Answer) → a ≡ refused 23 at → a ≡ answerOf (decodeRecords last c s count first atFirst)
       unfolding answerOf decodeRecords
       checked-over n a q = q ∙ sym (w .whole ∙ rw (done, ne-eqb at (length s) n))
 
-      pub checked-all : at ≡ length s → (a : Answer) → a ≡ accepted 0 → a ≡ answerOf (decodeRecords last c s count recordsPlace atFirst)
+      pub checked-all : at ≡ length s → (a : Answer) → a ≡ accepted 0 → a ≡ answerOf (decodeRecords last c s count first atFirst)
       unfolding answerOf decodeRecords
       checked-all n a q = q ∙ sym (w .whole ∙ rw (done, eq-eqb at (length s) n))
 
 -- ---- the whole stream
 module _ (last c : ℕ) (s : List ℕ) (a : Answer) where
-  pub stream-short : length s < recordsPlace → a ≡ refused 21 (length s) → a ≡ answerOf (decode last c s)
+  pub stream-short : length s < leastPlace → a ≡ refused 21 (length s) → a ≡ answerOf (decode last c s)
   unfolding answerOf decodeAfter refusing
-  stream-short h q = rw (lt-ltb (length s) recordsPlace h) q
+  stream-short h q = rw (lt-ltb (length s) leastPlace h) q
 
-  module _ (h : recordsPlace ≤ length s) (n : ℕ) (e : n ≡ fourAt s 0) where
+  module _ (h : leastPlace ≤ length s) (n : ℕ) (e : n ≡ fourAt s 0) where
     pub stream-off : (length s ≡ versionPlace + n → ⊥) → a ≡ refused 21 (length s) → a ≡ answerOf (decode last c s)
     unfolding answerOf decodeAfter refusing
-    stream-off p q = rw (le-ltb (length s) recordsPlace h, ← e, ne-eqb (length s) (versionPlace + n) p) q
+    stream-off p q = rw (le-ltb (length s) leastPlace h, ← e, ne-eqb (length s) (versionPlace + n) p) q
 
-    module _ (p : length s ≡ versionPlace + n) (b : Bool) (v : b ≡ knownVersion (byteAt s versionPlace)) where
+    module _ (p : length s ≡ versionPlace + n) (b : Bool) (v : b ≡ knownVersion (versionOf s)) where
       pub stream-version : not b ≡ true → a ≡ refused 22 versionPlace → a ≡ answerOf (decode last c s)
       unfolding answerOf decodeAfter refusing
-      stream-version t q = rw (le-ltb (length s) recordsPlace h, ← e, eq-eqb (length s) (versionPlace + n) p, ← v, t) q
+      stream-version t q = rw (le-ltb (length s) leastPlace h, ← e, eq-eqb (length s) (versionPlace + n) p, ← v, t) q
 
-      pub stream-records : not b ≡ false → (k : ℕ) → k ≡ fourAt s countPlace → a ≡ answerOf (decodeRecords last c s k recordsPlace atFirst) → a ≡ answerOf (decode last c s)
-      unfolding decodeAfter refusing
-      stream-records t k x q = q ∙ rw (le-ltb (length s) recordsPlace h, ← e, eq-eqb (length s) (versionPlace + n) p, ← v, t, x)
+      module _ (t : not b ≡ false) (first : ℕ) (f : first ≡ firstRecord s) where
+        pub stream-header : length s < first → a ≡ refused 28 versionPlace → a ≡ answerOf (decode last c s)
+        unfolding answerOf decodeAfter refusing
+        stream-header l q = rw (le-ltb (length s) leastPlace h, ← e, eq-eqb (length s) (versionPlace + n) p, ← v, t, lt-ltb (length s) (firstRecord s) (omega arith)) q
+
+        module _ (l : first ≤ length s) (d : ℕ) (x : d ≡ streamChannels s) where
+          pub stream-channels : (d ≡ c → ⊥) → a ≡ refused 28 versionPlace → a ≡ answerOf (decode last c s)
+          unfolding answerOf decodeAfter refusing
+          stream-channels o q = rw (le-ltb (length s) leastPlace h, ← e, eq-eqb (length s) (versionPlace + n) p, ← v, t, le-ltb (length s) (firstRecord s) (omega arith), ← x, ne-eqb d c o) q
+
+          pub stream-records : d ≡ c → (k : ℕ) → k ≡ tickCount s → a ≡ answerOf (decodeRecords last c s k first atFirst) → a ≡ answerOf (decode last c s)
+          unfolding decodeAfter refusing
+          stream-records o k y q = q ∙ rw (le-ltb (length s) leastPlace h, ← e, eq-eqb (length s) (versionPlace + n) p, ← v, t, le-ltb (length s) (firstRecord s) (omega arith), ← x, eq-eqb d c o, ← y, ← f)
+
+-- a first record inside the stream
+pub header-inside : (s : List ℕ) (first : ℕ) → first ≡ firstRecord s → first ≤ length s → firstRecord s ≤ length s
+header-inside s first e h = omega arith

@@ -9,12 +9,12 @@ use lib.ListN.{length}
 use lib.Dec.{ltb, eqb}
 use Rattle.laws.specs.Choice.{either}
 use Rattle.common.specs.declared.Answer.{Answer}
-use Rattle.common.specs.Bytes.{byteAt, fourAt}
+use Rattle.common.specs.Bytes.{fourAt}
 use Rattle.common.specs.Answers.{refusing}
 use Rattle.ticks.specs.declared.Command.{Command}
 use Rattle.ticks.specs.declared.Tick.{Tick}
 use Rattle.ticks.specs.Legal.{LegalTick, LegalTicks, more}
-use Rattle.records.specs.Format.{versionPlace, countPlace, recordsPlace, knownVersion, atFirst, Read, bad, read, readOn, readRecord, Decoded, refusal, ticks, withTick, decodeRecords, decodeAfter, decode}
+use Rattle.records.specs.Format.{versionPlace, leastPlace, knownVersion, versionOf, streamChannels, tickCount, firstRecord, atFirst, Read, bad, read, readOn, readRecord, Decoded, refusal, ticks, withTick, decodeRecords, decodeAfter, decode}
 use Rattle.records.specs.Reads.{on-either, on-good, passed, not-ticks, with-ticks, flag-read, flag-bad}
 use Rattle.records.specs.Decoded.{stream-of}
 use Rattle.decoder.specs.declared.Record.{Record}
@@ -66,10 +66,13 @@ records-numbered last c s (suc n) at registers =
 decode-numbered : (last c : ℕ) (s : List ℕ) → Numbered (decode last c s)
 unfolding decodeAfter refusing
 decode-numbered last c s =
-    let rest = decodeRecords last c s (fourAt s countPlace) recordsPlace atFirst in
-    let unknown = not (knownVersion (byteAt s versionPlace)) in
-    either Numbered (ltb (length s) recordsPlace || not (eqb (length s) (versionPlace + fourAt s 0))) (refusal 21 (length s)) (cond unknown (refusal 22 versionPlace) rest) (λ e. omega arith)
-    (λ e. either Numbered unknown (refusal 22 versionPlace) rest (λ q. omega arith) (λ q. records-numbered last c s (fourAt s countPlace) recordsPlace atFirst))
+    let rest = decodeRecords last c s (tickCount s) (firstRecord s) atFirst in
+    let unknown = not (knownVersion (versionOf s)) in
+    let other = ltb (length s) (firstRecord s) || not (eqb (streamChannels s) c) in
+    either Numbered (ltb (length s) leastPlace || not (eqb (length s) (versionPlace + fourAt s 0))) (refusal 21 (length s)) (cond unknown (refusal 22 versionPlace) (cond other (refusal 28 versionPlace) rest)) (λ e. omega arith)
+    (λ e.
+    either Numbered unknown (refusal 22 versionPlace) (cond other (refusal 28 versionPlace) rest) (λ q. omega arith)
+    (λ q. either Numbered other (refusal 28 versionPlace) rest (λ o. omega arith) (λ o. records-numbered last c s (tickCount s) (firstRecord s) atFirst)))
 
 pub checked-good : (last c : ℕ) (s : List ℕ) (a : Answer) → a ≡ answerOf (decode last c s) → a .number ≡ 0 → Good last c s
 unfolding answerOf
@@ -86,7 +89,7 @@ pub record Left (last c : ℕ) (s : List ℕ) (n at : ℕ) (registers : List Com
   pub legal : LegalTicks last (soundingOf registers) ts
 
 -- at first all records are left
-pub left-begin : (last c : ℕ) (s : List ℕ) (ts : List Tick) → decode last c s ≡ ticks ts → Left last c s (fourAt s countPlace) recordsPlace atFirst ts
+pub left-begin : (last c : ℕ) (s : List ℕ) (ts : List Tick) → decode last c s ≡ ticks ts → Left last c s (tickCount s) (firstRecord s) atFirst ts
 left-begin last c s ts e =
     let a = stream-of last c s ts e in
     record { reads = a .reads; legal = a .legal }

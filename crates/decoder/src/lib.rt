@@ -1,25 +1,28 @@
-// The stream's decoder: judges any bytes as a stream (refusals 21 to 23), and reads it record by record, with the registers as its state.
+// The stream's decoder: judges any bytes as a stream (refusals 21, 22, 28 and 23), and reads it record by record, with the registers as its state.
 // The module that it is for gives the last sample number and the number of channels.
 ghost use mathlib.Core.Path.{_≡_};
 ghost use Prim.Native.Nat.{_^_, _≤_, _<_};
 ghost use lib.ListN.{length};
 ghost use Rattle.common.specs.Limits.{width};
-ghost use Rattle.common.specs.Bytes.{fourAt};
-ghost use Rattle.records.specs.Format.{countPlace, recordsPlace, knownVersion, keeps, atFirst, readRecord, decodeRecords, decode};
+ghost use Rattle.records.specs.Format.{leastPlace, recordsPlace, knownVersion, keeps, shift, streamChannels, tickCount, firstRecord, atFirst, readRecord, decodeRecords, decode};
 ghost use Rattle.decoder.specs.Answers.{asRecord, answerOf};
 use common::Answer;
 use common::accept;
 use common::bytes::byte;
 use common::bytes::four;
+use common::bytes::wide;
 use common::limits::GREATEST_TEMPO;
 use common::limits::LEAST_TEMPO;
 use common::limits::WIDTH;
 use common::limits::is_between;
 use common::refuse;
+use records::CHANNELS_PLACE;
 use records::COUNT_PLACE;
+use records::COUNTED_VERSION;
 use records::FIRST_VERSION;
 use records::HEAD_BYTES;
-use records::RECORDS_PLACE;
+use records::LEAST_PLACE;
+use records::OLD_CHANNELS;
 use records::TEMPO_PLACE;
 use records::VERSION;
 use records::VERSION_PLACE;
@@ -88,17 +91,46 @@ pub fn read_record(
     }
 }
 
+// By how many bytes a version's channel count moves what comes after it.
+fn shift(version: u8) -> usize
+    ensures { λ r. ⌜ (r ≡ shift version) × (r ≤ 1) ⌝ }
+{
+    if version < COUNTED_VERSION {
+        return 0;
+    }
+    1
+}
+
+// The place of a stream's first record.
+pub fn first_record(stream: &[u8]) -> usize
+    requires { ⌜ leastPlace ≤ length (now stream) ⌝ }
+    ensures { λ r. ⌜ (r ≡ firstRecord (now (stream .entry))) × (r ≤ recordsPlace) ⌝ }
+{
+    LEAST_PLACE + shift(stream[VERSION_PLACE])
+}
+
 // How many ticks a stream says that it has.
 pub fn count_of(stream: &[u8]) -> usize
-    requires { ⌜ recordsPlace ≤ length (now stream) ⌝ }
-    ensures { λ n. ⌜ (n ≡ fourAt (now (stream .entry)) countPlace) × (n < 2 ^ 32) ⌝ }
+    requires { ⌜ firstRecord (now stream) ≤ length (now stream) ⌝ }
+    ensures { λ n. ⌜ (n ≡ tickCount (now (stream .entry))) × (n < 2 ^ 32) ⌝ }
 {
-    four(stream, COUNT_PLACE)
+    four(stream, COUNT_PLACE + shift(stream[VERSION_PLACE]))
+}
+
+// How many channels a stream is for.
+fn channels_in(stream: &[u8]) -> usize
+    requires { ⌜ leastPlace ≤ length (now stream) ⌝ }
+    ensures { λ n. ⌜ n ≡ streamChannels (now (stream .entry)) ⌝ }
+{
+    if stream[VERSION_PLACE] < COUNTED_VERSION {
+        return OLD_CHANNELS;
+    }
+    wide(stream[CHANNELS_PLACE])
 }
 
 // Whether a stream's ticks keep a remainder.
 pub fn keeps(stream: &[u8]) -> bool
-    requires { ⌜ recordsPlace ≤ length (now stream) ⌝ }
+    requires { ⌜ leastPlace ≤ length (now stream) ⌝ }
     ensures { λ b. ⌜ b ≡ keeps (now (stream .entry)) ⌝ }
 {
     stream[VERSION_PLACE] != FIRST_VERSION
@@ -111,12 +143,12 @@ fn known_version(v: u8) -> bool
 }
 
 // Refusal 23. It ends at the first bad record, and a good one has at least two bytes, whatever the count is.
-fn check_records(last: u32, channels: usize, stream: &[u8], count: usize) -> Answer
+fn check_records(last: u32, channels: usize, stream: &[u8], count: usize, first: usize) -> Answer
     requires { ⌜ channels ≤ width ⌝ }
-    ensures { λ r. ⌜ r ≡ answerOf (decodeRecords last channels (now (stream .entry)) count recordsPlace atFirst) ⌝ }
+    ensures { λ r. ⌜ r ≡ answerOf (decodeRecords last channels (now (stream .entry)) count first atFirst) ⌝ }
 {
     let mut registers = records::at_first();
-    let mut at = RECORDS_PLACE;
+    let mut at = first;
     let mut left = count;
     while 0 < left {
         let r = read_record(last, channels, stream, at, registers);
@@ -134,12 +166,12 @@ fn check_records(last: u32, channels: usize, stream: &[u8], count: usize) -> Ans
     accept(0)
 }
 
-// Whether the bytes are a stream: the first refusal of 21 to 23, with its place. All records are judged.
+// Whether the bytes are a stream: the first refusal of 21, 22, 28 and 23, with its place. All records are judged.
 pub fn check(last: u32, channels: usize, stream: &[u8]) -> Answer
     requires { ⌜ channels ≤ width ⌝ }
     ensures { λ r. ⌜ r ≡ answerOf (decode last channels (now (stream .entry))) ⌝ }
 {
-    if stream.len() < RECORDS_PLACE {
+    if stream.len() < LEAST_PLACE {
         return refuse(21, stream.len());
     }
     if stream.len() != VERSION_PLACE + four(stream, 0) {
@@ -148,5 +180,12 @@ pub fn check(last: u32, channels: usize, stream: &[u8]) -> Answer
     if !known_version(stream[VERSION_PLACE]) {
         return refuse(22, VERSION_PLACE);
     }
-    check_records(last, channels, stream, count_of(stream))
+    let first = first_record(stream);
+    if stream.len() < first {
+        return refuse(28, VERSION_PLACE);
+    }
+    if channels_in(stream) != channels {
+        return refuse(28, VERSION_PLACE);
+    }
+    check_records(last, channels, stream, count_of(stream), first)
 }

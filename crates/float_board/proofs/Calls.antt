@@ -1,4 +1,4 @@
--- What the call goes by: 1 to 9, then 24, then 21 to 23, then the play. Laws over plain variables.
+-- What the call goes by: 1 to 9, then 24, then 21, 22, 28 and 23, then the play. Laws over plain variables.
 -- Assumes nothing.
 use Prim.Native.Nat.{ℕ}
 use mathlib.Core.Path.{_≡_, ap, subst}
@@ -8,7 +8,7 @@ use lib.Ieee.{Float}
 use borrow.Author.Tests.{eq-eqb, ne-eqb}
 use Rattle.common.specs.Answers.{refused, outcome, refusing}
 use Rattle.common.specs.declared.Answer.{Answer}
-use Rattle.reader.specs.File.{lent, fourChannels, moduleOf}
+use Rattle.reader.specs.File.{lent, layoutOf, moduleOf}
 use Rattle.reader.specs.Judge.{verdict}
 use Rattle.reader.specs.declared.Layout.{Layout}
 use Rattle.voice.specs.Voice.{samplesOf}
@@ -19,7 +19,7 @@ use Rattle.decoder.specs.Answers.{answerOf}
 use Rattle.float_board.specs.declared.FloatAnswer.{FloatAnswer}
 use Rattle.float_board.specs.Board.{floatAnswer, floatsBoardBy, floatBoardOf, playStreamFloatsFromOf}
 
-module _ (layout : Layout) (bytes s : List ℕ) (first sides : ℕ) (pair : Pair) (out : List Float) (v : Answer) (e : v ≡ verdict (lent layout bytes)) (le : layout ≡ fourChannels) where
+module _ (layout : Layout) (bytes s : List ℕ) (first sides : ℕ) (pair : Pair) (out : List Float) (v : Answer) (e : v ≡ verdict (lent layout bytes)) (le : layout ≡ layoutOf bytes) where
   here : v ≡ verdict (moduleOf bytes)
   here = subst (λ (l : Layout). v ≡ verdict (lent l bytes)) le e
 

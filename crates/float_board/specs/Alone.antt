@@ -63,12 +63,13 @@ module _ (last c : ℕ) (room : c ≤ width) (samples others : ℕ → Sample) (
       go (refusal number place) e = refl
       go (ticks ts) e = played-same (keeps stream) (soundingOf atFirst) (length-sounding atFirst ∙ first-long) first ts out (stream-of last c stream ts e .legal)
 
--- two accepted files with equal samples give equal numbers, and equal answers and records, for every stream, tick to begin with, sides and output
+-- two accepted files of as many channels with equal samples give equal numbers, and equal answers and records, for every stream, tick to begin with, sides and output
 pub same-floats : (bytes bytes′ : List ℕ) → verdict (moduleOf bytes) .number ≡ 0 → verdict (moduleOf bytes′) .number ≡ 0
+    → channelCount (moduleOf bytes) ≡ channelCount (moduleOf bytes′)
     → ((k : ℕ) → k ≤ sampleCount (moduleOf bytes) → sampleOf (moduleOf bytes) k ≡ sampleOf (moduleOf bytes′) k)
     → (stream : List ℕ) (first sides : ℕ) (pair : Pair) (out : List Float) → playStreamFloatsFromOf bytes stream first sides pair out ≡ playStreamFloatsFromOf bytes′ stream first sides pair out
 unfolding playStreamFloatsFromOf refusing
-same-floats bytes bytes′ e e′ same stream first sides pair out =
+same-floats bytes bytes′ e e′ count same stream first sides pair out =
     let m = moduleOf bytes in
     let m′ = moduleOf bytes′ in
     rw (
@@ -76,5 +77,6 @@ same-floats bytes bytes′ e e′ same stream first sides pair out =
       e′,
       board-same (sampleCount m) (channelCount m) (module-legal bytes .channels) (samplesOf m) (samplesOf m′)
           (λ k h. sample-is m (module-legal bytes .samples) (extentsOf m) refl k h ∙ (same k h ∙ sym (sample-is m′ (module-legal bytes′ .samples) (extentsOf m′) refl k h)))
-          sides pair first stream out,
+          sides pair first stream out
+          ∙ ap (λ (c : ℕ). floatBoardOf (sampleCount m) c (samplesOf m′) first stream sides pair out) count,
     )

@@ -43,7 +43,7 @@ playedFloats keeping channels samples first ts sides pair out =
     (floatAnswer (accepted (fit (floatsOn keeping channels samples sides) (length out) (floatsLed keeping channels samples first ts pair) (drop first ts))) (afterFit (floatsOn keeping channels samples sides) (length out) (floatsLed keeping channels samples first ts pair) (drop first ts) .last))
     (playOut (floatsOn keeping channels samples sides) (floatsLed keeping channels samples first ts pair) (drop first ts) out)
 
--- 21 to 23, where record and buffer stay; otherwise the stream's ticks
+-- 21, 22, 28 and 23, where record and buffer stay; otherwise the stream's ticks
 unfoldable pub floatsBoardBy : Bool → ℕ → (ℕ → Sample) → ℕ → Decoded → ℕ → Pair → List Float → Outcome FloatAnswer Float
 floatsBoardBy keeping channels samples first (refusal number place) sides pair out = outcome (floatAnswer (refused number place) pair) out
 floatsBoardBy keeping channels samples first (ticks ts) sides pair out = playedFloats keeping channels samples first ts sides pair out

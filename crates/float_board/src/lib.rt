@@ -111,7 +111,7 @@ pub fn play_stream_floats_from(
 ) -> FloatAnswer
     ensures { λ r. ⌜ outcome r (now (out .exit)) ≡ playStreamFloatsFromOf (now (file .entry)) (now (stream .entry)) first sides pair (now (out .entry)) ⌝ }
 {
-    let layout = reader::offsets::four_channels();
+    let layout = reader::offsets::layout_of(file);
     let judged = reader::judge_by(layout, file);
     if judged.number != 0 {
         return refuse(judged.number, judged.place, pair);

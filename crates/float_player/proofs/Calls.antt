@@ -8,7 +8,7 @@ use lib.Ieee.{Float}
 use Rattle.common.specs.Answers.{refused, outcome, line, Outcome}
 use Rattle.common.specs.AnswerLaws.{no-line, line-given, line-passed}
 use Rattle.common.specs.declared.Answer.{Answer}
-use Rattle.reader.specs.File.{lent, fourChannels, moduleOf}
+use Rattle.reader.specs.File.{lent, layoutOf, moduleOf}
 use Rattle.reader.specs.declared.Layout.{Layout}
 use Rattle.floats.specs.declared.Pair.{Pair}
 use Rattle.floats.specs.Frames.{unasked}
@@ -19,7 +19,7 @@ use Rattle.player.specs.Judging.{refused-state, passed-state}
 use Rattle.float_player.specs.declared.FloatReply.{FloatReply}
 use Rattle.float_player.specs.Play.{floatReply, floatsFrom, playFloatsOf}
 
-module _ (layout : Layout) (bytes : List ℕ) (s : State) (v : Answer) (j : Judged (lent layout bytes) s v) (le : layout ≡ fourChannels) (n sides : ℕ) (pair : Pair) (out : List Float) (r : FloatReply) where
+module _ (layout : Layout) (bytes : List ℕ) (s : State) (v : Answer) (j : Judged (lent layout bytes) s v) (le : layout ≡ layoutOf bytes) (n sides : ℕ) (pair : Pair) (out : List Float) (r : FloatReply) where
   -- a refusal leaves state, record and buffer
   abbrev refusal : ℕ → ℕ → Outcome FloatReply Float
   refusal number place = outcome (floatReply (reply (refused number place) s) pair) out

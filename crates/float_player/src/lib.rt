@@ -113,7 +113,7 @@ pub fn play_floats(
 ) -> FloatReply
     ensures { λ r. ⌜ outcome r (now (out .exit)) ≡ playFloatsOf (now (file .entry)) state ticks sides pair (now (out .entry)) ⌝ }
 {
-    let layout = reader::offsets::four_channels();
+    let layout = reader::offsets::layout_of(file);
     let judged = player::legality::judge_state(layout, file, state);
     let number = judged.number;
     if number != 0 {

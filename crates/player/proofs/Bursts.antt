@@ -11,7 +11,7 @@ use borrow.Author.Tests.{lt-ltb, le-ltb, eqb-true, not-false}
 use Rattle.laws.specs.Every.{first-of, second-of}
 use Rattle.common.specs.Answers.{refused, outcome, refusing}
 use Rattle.common.specs.declared.Answer.{Answer}
-use Rattle.reader.specs.File.{lent, fourChannels, moduleOf, songLength}
+use Rattle.reader.specs.File.{lent, layoutOf, moduleOf, songLength}
 use Rattle.reader.specs.declared.Layout.{Layout}
 use Rattle.player.specs.declared.State.{State}
 use Rattle.player.specs.declared.Reply.{Reply}
@@ -23,7 +23,7 @@ use Rattle.player.specs.Touching.{touchFrom, burstFrom, judged-once}
 use Rattle.player.specs.Keeps.{touch-judged}
 use Rattle.player.specs.Judging.{refused-state, passed-state}
 
-module _ (layout : Layout) (bytes : List ℕ) (s : State) (v : Answer) (j : Judged (lent layout bytes) s v) (le : layout ≡ fourChannels) where
+module _ (layout : Layout) (bytes : List ℕ) (s : State) (v : Answer) (j : Judged (lent layout bytes) s v) (le : layout ≡ layoutOf bytes) where
   here : Judged (moduleOf bytes) s v
   here = subst (λ (l : Layout). Judged (lent l bytes) s v) le j
 

@@ -9,7 +9,7 @@ use borrow.Author.Tests.{lt-ltb, le-leb, lt-leb}
 use Rattle.laws.specs.Every.{all-at}
 use Rattle.common.specs.Answers.{refused, refusing}
 use Rattle.common.specs.declared.Answer.{Answer}
-use Rattle.reader.specs.File.{lent, fourChannels, moduleOf}
+use Rattle.reader.specs.File.{lent, layoutOf, moduleOf, channelCount}
 use Rattle.reader.specs.Judge.{verdict}
 use Rattle.reader.specs.Accept.{Inside, accepted-has}
 use Rattle.reader.specs.Layouts.{LegalLayout}
@@ -49,7 +49,7 @@ unfolding legalState
 known-sample layout bytes s v j z y i h = used-has layout (extentsOf (lent layout bytes)) (s .voices) (y .channels) (all-at _ (j .playable z .legal) 1) i h .sample
 
 -- ---- the call
-module _ (layout : Layout) (bytes : List ℕ) (s : State) (channel : ℕ) (v : Answer) (j : Judged (lent layout bytes) s v) (le : layout ≡ fourChannels) where
+module _ (layout : Layout) (bytes : List ℕ) (s : State) (channel : ℕ) (v : Answer) (j : Judged (lent layout bytes) s v) (le : layout ≡ layoutOf bytes) where
   refuse : ℕ → ℕ → Why
   refuse number place = Refused (refused number place)
 
@@ -72,8 +72,8 @@ module _ (layout : Layout) (bytes : List ℕ) (s : State) (channel : ℕ) (v : A
     module _ (some : channel ≡ 0 → ⊥) where
       pub why-past : layout .channels ≤ channel - 1 → (a : Answer) → a ≡ refused 25 0 → Refused a ≡ whyQuietOf bytes s channel
       unfolding refusing refuse work
-      why-past h a e = passed (Refused a) (let q : 4 ≤ channel - 1 = rw le at h in rw (lt-ltb 0 channel (omega arith), lt-leb channel 4 (omega arith)) (ap Refused e))
+      why-past h a e = passed (Refused a) (let q : channelCount (moduleOf bytes) ≤ channel - 1 = rw le at h in rw (lt-ltb 0 channel (omega arith), lt-leb channel (channelCount (moduleOf bytes)) (omega arith)) (ap Refused e))
 
       pub why-because : channel - 1 < layout .channels → (c : Cause) → c ≡ voiceCause (lent layout bytes) (getD (s .voices) (channel - 1) blank) → Because c ≡ whyQuietOf bytes s channel
       unfolding refusing refuse work
-      why-because h c e = passed (Because c) (let q : channel - 1 < 4 = rw le at h in rw (lt-ltb 0 channel (omega arith), le-leb channel 4 (omega arith)) (ap Because (rw le at e)))
+      why-because h c e = passed (Because c) (let q : channel - 1 < channelCount (moduleOf bytes) = rw le at h in rw (lt-ltb 0 channel (omega arith), le-leb channel (channelCount (moduleOf bytes)) (omega arith)) (ap Because (rw le at e)))

@@ -13,7 +13,7 @@ use Rattle.common.specs.Answers.{Line, refused, accepted, outcome, refusing}
 use Rattle.common.specs.AnswerLaws.{no-line, line-given, line-passed}
 use Rattle.common.specs.ByteLaws.{Bytes}
 use Rattle.common.specs.declared.Answer.{Answer}
-use Rattle.reader.specs.File.{Module, lent, fourChannels, moduleOf, songLength}
+use Rattle.reader.specs.File.{Module, lent, layoutOf, moduleOf, songLength}
 use Rattle.reader.specs.Judge.{verdict}
 use Rattle.reader.specs.Accept.{verdict-answer, accepted-by, module-given, module-passed}
 use Rattle.reader.specs.Samples.{extentsOf}
@@ -57,7 +57,7 @@ module _ (layout : Layout) (bytes : List ℕ) (s : State) (v : Answer) (ve : v �
         record { is = module-passed refused (accepted 0) m _ r zero (line-given refused (accepted 0) 14 0 _ [] r (ap not (sym le ∙ h)) e); playable = λ q. never-zero 14 (λ x. omega arith) (ap (λ (a : Answer). a .number) (sym e) ∙ q) }
 
 -- ---- a call's answer by the verdict, for the layout of every module
-module _ (layout : Layout) (bytes : List ℕ) (s : State) (v : Answer) (j : Judged (lent layout bytes) s v) (le : layout ≡ fourChannels) where
+module _ (layout : Layout) (bytes : List ℕ) (s : State) (v : Answer) (j : Judged (lent layout bytes) s v) (le : layout ≡ layoutOf bytes) where
   -- a refusal leaves the state
   pub refused-reply : (work : Reply) (more : List Line) (r : Reply) → (v .number ≡ 0 → ⊥) → r ≡ reply (refused (v .number) (v .place)) s → r ≡ refusing (λ number place. reply (refused number place) s) work (stateLines (moduleOf bytes) s more)
   refused-reply work more r h e = e ∙ refused-state layout bytes s v j le (λ number place. reply (refused number place) s) work more h

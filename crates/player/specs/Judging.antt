@@ -8,7 +8,7 @@ use lib.Dec.{eqb}
 use Rattle.common.specs.Answers.{Line, refused, accepted, refusing}
 use Rattle.common.specs.AnswerLaws.{line-passed}
 use Rattle.common.specs.declared.Answer.{Answer}
-use Rattle.reader.specs.File.{lent, fourChannels, moduleOf}
+use Rattle.reader.specs.File.{lent, layoutOf, moduleOf}
 use Rattle.reader.specs.Judge.{verdict}
 use Rattle.reader.specs.Accept.{module-passed}
 use Rattle.reader.specs.declared.Layout.{Layout}
@@ -20,7 +20,7 @@ pub never-zero : {A : Type 0} (n : ℕ) → (n ≡ 0 → ⊥) → n ≡ 0 → A
 never-zero n h e = absurd (h e)
 
 -- for the layout of every module
-module _ (layout : Layout) (bytes : List ℕ) (s : State) (v : Answer) (j : Judged (lent layout bytes) s v) (le : layout ≡ fourChannels) where
+module _ (layout : Layout) (bytes : List ℕ) (s : State) (v : Answer) (j : Judged (lent layout bytes) s v) (le : layout ≡ layoutOf bytes) where
   here : Judged (moduleOf bytes) s v
   here = subst (λ (l : Layout). Judged (lent l bytes) s v) le j
 

@@ -22,7 +22,7 @@ use Rattle.player.specs.State.{stateLines}
 abbrev pub voiceCause : Module → Voice → Cause
 voiceCause m v = causeOf (samplesOf m (v .sample) .bytes) v
 
--- 25: channel not 1 to 4
+-- 25: channel not 1 to the number of channels
 abbrev pub channelLine : Module → ℕ → Line
 channelLine m channel = line 25 (not (ltb 0 channel && leb channel (channelCount m))) 0
 

@@ -71,7 +71,7 @@ pub fn fresh() -> State
 pub fn play(file: &[u8], state: State, ticks: u32, out: &mut [i16]) -> Reply
     ensures { λ r. ⌜ outcome r (now (out .exit)) ≡ playOf (now (file .entry)) state ticks (now (out .entry)) ⌝ }
 {
-    let layout = reader::offsets::four_channels();
+    let layout = reader::offsets::layout_of(file);
     let judged = legality::judge_state(layout, file, state);
     let number = judged.number;
     if number != 0 {
@@ -86,7 +86,7 @@ pub fn play(file: &[u8], state: State, ticks: u32, out: &mut [i16]) -> Reply
 pub fn change_page(file: &[u8], state: State) -> Reply
     ensures { λ r. ⌜ r ≡ changePageOf (now (file .entry)) state ⌝ }
 {
-    let layout = reader::offsets::four_channels();
+    let layout = reader::offsets::layout_of(file);
     let judged = legality::judge_state(layout, file, state);
     let number = judged.number;
     if number != 0 {
@@ -99,7 +99,7 @@ pub fn change_page(file: &[u8], state: State) -> Reply
 pub fn touch(file: &[u8], state: State, page: u32, made: u32, position: u32) -> Reply
     ensures { λ r. ⌜ r ≡ touchOf (now (file .entry)) state page made position ⌝ }
 {
-    let layout = reader::offsets::four_channels();
+    let layout = reader::offsets::layout_of(file);
     let judged = legality::judge_state(layout, file, state);
     let number = judged.number;
     if number != 0 {
@@ -120,7 +120,7 @@ pub fn touch_burst(
 ) -> Reply
     ensures { λ r. ⌜ outcome r (now (answers .exit)) ≡ burstOf (now (file .entry)) state (record { pages = now (pages .entry); mades = now (mades .entry); positions = now (positions .entry) }) (now (answers .entry)) ⌝ }
 {
-    let layout = reader::offsets::four_channels();
+    let layout = reader::offsets::layout_of(file);
     let judged = legality::judge_state(layout, file, state);
     let number = judged.number;
     if number != 0 {
@@ -134,7 +134,7 @@ pub fn touch_burst(
 pub fn why_quiet(file: &[u8], state: State, channel: u32) -> Why
     ensures { λ r. ⌜ r ≡ whyQuietOf (now (file .entry)) state channel ⌝ }
 {
-    let layout = reader::offsets::four_channels();
+    let layout = reader::offsets::layout_of(file);
     let judged = legality::judge_state(layout, file, state);
     let number = judged.number;
     if number != 0 {

@@ -8,7 +8,10 @@ use native.Mathlib.Nat.{mul-le-mul-right}
 use lib.Dec.{ltb}
 use borrow.Author.Tests.{lt-ltb, le-ltb, ne-eqb, ltb-true, ltb-false}
 use Rattle.laws.specs.Tests.{is-and-false, is-and-true, same-test}
-use Rattle.reader.specs.Layouts.{LegalLayout}
+use mathlib.Core.List.{List}
+use Rattle.common.specs.Bytes.{fourAt}
+use Rattle.reader.specs.File.{channelsOf, tagPlace, layoutFor, layoutOf}
+use Rattle.reader.specs.Layouts.{LegalLayout, layout-legal}
 use Rattle.common.specs.Limits.{width, leastCellPeriod, greatestCellPeriod, badPeriod}
 use Rattle.reader.specs.declared.Layout.{Layout}
 
@@ -19,6 +22,14 @@ number-high last b0 b2 r m e h = same-test last r last (b0 / 16 * 16 + b2 / 16) 
 -- so many rows have few cells
 pub few-cells : (l : Layout) (rows : ℕ) → LegalLayout l → l .channels * rows ≤ width * rows
 few-cells l rows h = mul-le-mul-right rows (h .channels)
+
+-- ---- the layout that a tag names
+module _ (bytes : List ℕ) (tag c : ℕ) (ce : c ≡ channelsOf tag) (te : tag ≡ fourAt bytes tagPlace) where
+  pub tagged-layout : layoutFor 31 c ≡ layoutOf bytes
+  tagged-layout = rw (ce, te)
+
+  pub tagged-legal : LegalLayout (layoutFor 31 c)
+  tagged-legal = layout-legal (layoutFor 31 c) bytes tagged-layout
 
 -- ---- the test that the code makes of a cell's first two bytes is the table's
 pub cell-test : (last b0 b1 b2 w z : ℕ) → (last + 1) % 16 ≡ 0 → b0 < 256 → b1 < 256 → b2 < 256 → w ≡ b0 * 256 + b1 → (last < w / 256 → greatestCellPeriod < z) → (w / 256 ≤ last → z ≡ w % 4096) → badPeriod z ≡ (ltb last (b0 / 16 * 16 + b2 / 16) || badPeriod (b0 % 16 * 256 + b1))

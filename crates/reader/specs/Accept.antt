@@ -8,7 +8,7 @@ use native.Mathlib.Omega.{arith}
 use native.Mathlib.Nat.{mul-le-mul-left}
 use lib.Dec.{ltb, eqb}
 use lib.ListN.{length}
-use borrow.Author.Tests.{lt-ltb, ltb-true, ltb-false, eq-eqb, ne-eqb, eqb-false, not-false}
+use borrow.Author.Tests.{lt-ltb, ltb-true, ltb-false, eq-eqb, ne-eqb, eqb-false, not-false, not-true}
 use Rattle.laws.specs.Tests.{or-parts, and-right}
 use Rattle.laws.specs.Search.{none-at, total-le, largest-le}
 use Rattle.common.specs.Answers.{refused, accepted, Line, refusing}
@@ -27,7 +27,7 @@ use Rattle.common.specs.LimitFacts.{CellPeriod, cell-period-has}
 -- the table's lines, each as the fact that it was not given
 pub record Accepted (m : Module) : Type 0 where
   pub long : m .layout .patterns ≤ length (m .bytes)
-  pub tag : tagged m ≡ true
+  pub channels : 0 < channelCount m
   pub song : (0 < songLength m) × (songLength m ≤ entries)
   pub named : (i : ℕ) → i < entries → entryOf m i ≤ lastPattern
   pub volumes : (k : ℕ) → k < sampleCount m → headerVolume (m .bytes) k ≤ loudest
@@ -36,14 +36,18 @@ pub record Accepted (m : Module) : Type 0 where
   pub cells : (i : ℕ) → i < cellsIn (m .layout) (rows * patternsOf m) → badCell m i ≡ false
 
 -- ---- from the verdict
+positive : (n : ℕ) → (n ≡ 0 → ⊥) → 0 < n
+positive n f = omega (arith, f)
+
+channels-by : (m : Module) → tagged m ≡ true → 0 < channelCount m
+unfolding tagged
+channels-by m h = positive (channelCount m) (eqb-false _ _ (not-true _ h))
+
 song-by : (m : Module) → badLength m ≡ false → (0 < songLength m) × (songLength m ≤ entries)
 unfolding badLength
 song-by m h =
     let p = or-parts (eqb (songLength m) 0) (ltb entries (songLength m)) h in
     (positive (songLength m) (eqb-false _ _ (p .0)), ltb-false entries (songLength m) (p .1))
-  where
-    positive : (n : ℕ) → (n ≡ 0 → ⊥) → 0 < n
-    positive n f = omega (arith, f)
 
 named-by : (m : Module) → some (badEntry m) entries ≡ false → (i : ℕ) → i < entries → entryOf m i ≤ lastPattern
 unfolding badEntry
@@ -71,7 +75,7 @@ accepted-has m e =
     let p9 = line-not-given _ _ (omega arith) (p8 .1) in
     record {
       long = ltb-false (length (m .bytes)) (m .layout .patterns) (p1 .0);
-      tag = not-false (tagged m) (p2 .0);
+      channels = channels-by m (not-false (tagged m) (p2 .0));
       song = song-by m (p3 .0);
       named = named-by m (p4 .0);
       volumes = volumes-by m (p5 .0);

@@ -2,11 +2,13 @@
 -- What follows from the number of samples, the tag and the number of channels is named here and nowhere else.
 -- Assumes nothing.
 use Prim.Native.Nat.{ℕ, _+_, _*_, _/_}
+use mathlib.Core.Bool.{cond, _||_}
 use mathlib.Core.List.{List}
+use lib.Dec.{eqb}
 use Rattle.laws.specs.Ranges.{total, largest}
 use Rattle.reader.specs.declared.Layout.{Layout}
 use Rattle.common.specs.Limits.{rows}
-use Rattle.common.specs.Bytes.{byteAt, wordAt}
+use Rattle.common.specs.Bytes.{byteAt, wordAt, fourAt}
 
 -- ---- the layout
 -- 128 table entries
@@ -37,12 +39,33 @@ layoutFor n c =
       patterns = 150 + 30 * n + n / 16 * 4;
     }
 
--- 31-sample, four-channel files
-abbrev pub fourChannels : Layout
-fourChannels = layoutFor 31 4
+-- the tags, as the number that their four bytes spell: `M.K.`, `4CHN`, `6CHN` and `8CHN`
+abbrev pub tagMK : ℕ
+tagMK = 0x4D2E4B2E
+
+abbrev pub tag4CHN : ℕ
+tag4CHN = 0x3443484E
+
+abbrev pub tag6CHN : ℕ
+tag6CHN = 0x3643484E
+
+abbrev pub tag8CHN : ℕ
+tag8CHN = 0x3843484E
+
+-- how many channels a tag names; any other tag names none
+unfoldable pub channelsOf : ℕ → ℕ
+channelsOf tag = cond (eqb tag tagMK || eqb tag tag4CHN) 4 (cond (eqb tag tag6CHN) 6 (cond (eqb tag tag8CHN) 8 0))
+
+-- 31-sample files have their tag at 1080
+abbrev pub tagPlace : ℕ
+tagPlace = 1080
+
+-- and as many channels as it names
+abbrev pub layoutOf : List ℕ → Layout
+layoutOf bytes = layoutFor 31 (channelsOf (fourAt bytes tagPlace))
 
 abbrev pub moduleOf : List ℕ → Module
-moduleOf bytes = lent fourChannels bytes
+moduleOf bytes = lent (layoutOf bytes) bytes
 
 abbrev pub sampleCount : Module → ℕ
 sampleCount m = m .layout .samples

@@ -7,20 +7,15 @@ use lib.ListN.{length}
 use lib.Dec.{ltb, eqb}
 use Rattle.laws.specs.Ranges.{some, first}
 use Rattle.common.specs.Answers.{Line, line, refusing, refused, accepted}
-use Rattle.reader.specs.File.{sampleCount, sampleWords, volumePlace, headerVolume, loopStartPlace, loopStart, loopLength, cellsIn, samplePlace, Module, moduleOf, lastPattern, songLength, entries, entryOf, cellPlace, patternsOf}
+use Rattle.reader.specs.File.{sampleCount, channelCount, sampleWords, volumePlace, headerVolume, loopStartPlace, loopStart, loopLength, cellsIn, samplePlace, Module, moduleOf, lastPattern, songLength, entries, entryOf, cellPlace, patternsOf}
 use Rattle.common.specs.Bytes.{byteAt}
 use Rattle.common.specs.declared.Answer.{Answer}
 use Rattle.common.specs.Limits.{loudest, rows, badPeriod}
 
 -- ---- what is bad
--- there is no tag, or it is `M.K.`
+-- the tag is one of the four, or there is none: a file whose tag is another has no channel
 unfoldable pub tagged : Module → Bool
-tagged m =
-    ltb (m .layout .patterns) (m .layout .tag + 4)
-    || (eqb (byteAt (m .bytes) (m .layout .tag)) 0x4D
-    && (eqb (byteAt (m .bytes) (m .layout .tag + 1)) 0x2E
-    && (eqb (byteAt (m .bytes) (m .layout .tag + 2)) 0x4B
-    && eqb (byteAt (m .bytes) (m .layout .tag + 3)) 0x2E)))
+tagged m = not (eqb (channelCount m) 0)
 
 -- song length 0 or above 128, the number of table entries
 unfoldable pub badLength : Module → Bool

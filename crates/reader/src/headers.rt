@@ -21,25 +21,11 @@ const LOUDEST_BYTE: u8 = LOUDEST as u8;
 
 const MOST_POSITIONS: u8 = ENTRIES as u8;
 
+// Whether the layout has channels: a tag other than the four names none.
 pub fn is_tagged(layout: Layout, file: &[u8]) -> bool
-    requires { ⌜ LegalLayout layout ⌝ }
-    requires { ⌜ layout .patterns ≤ length (now file) ⌝ }
     ensures { λ r. ⌜ r ≡ tagged (lent layout (now (file .entry))) ⌝ }
 {
-    if layout.patterns < layout.tag + 4 {
-        return true;
-    }
-    let at = layout.tag;
-    if file[at] != b'M' {
-        return false;
-    }
-    if file[at + 1] != b'.' {
-        return false;
-    }
-    if file[at + 2] != b'K' {
-        return false;
-    }
-    file[at + 3] == b'.'
+    layout.channels != 0
 }
 
 pub fn is_bad_length(layout: Layout, file: &[u8]) -> bool

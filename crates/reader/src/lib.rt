@@ -118,5 +118,5 @@ pub fn judge_by(layout: Layout, file: &[u8]) -> Answer
 pub fn judge(file: &[u8]) -> Answer
     ensures { λ r. ⌜ r ≡ judgeOf (now (file .entry)) ⌝ }
 {
-    judge_by(offsets::four_channels(), file)
+    judge_by(offsets::layout_of(file), file)
 }

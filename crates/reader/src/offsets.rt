@@ -2,9 +2,11 @@
 ghost use mathlib.Core.Path.{_≡_};
 ghost use Prim.Native.Nat.{_*_, _≤_, _<_};
 ghost use Rattle.common.specs.Limits.{width};
-ghost use Rattle.reader.specs.File.{fourChannels, cellsIn};
+ghost use Rattle.common.specs.Bytes.{fourAt};
+ghost use Rattle.reader.specs.File.{channelsOf, tagPlace, layoutOf, cellsIn};
 ghost use Rattle.reader.specs.Layouts.{LegalLayout};
 use crate::Layout;
+use common::bytes::byte;
 
 pub const HEADERS_AT: usize = 20;
 
@@ -26,17 +28,56 @@ pub const LAST_PATTERN: u8 = 63;
 
 pub const CELL_BYTES: usize = 4;
 
-// 31 samples and four channels.
-pub fn four_channels() -> Layout
-    ensures { λ r. ⌜ r ≡ fourChannels ⌝ }
+// The tags of 31-sample files, as the number that their four bytes spell, and their place.
+const TAG_MK: u32 = 0x4D2E4B2E;
+
+const TAG_4CHN: u32 = 0x3443484E;
+
+const TAG_6CHN: u32 = 0x3643484E;
+
+const TAG_8CHN: u32 = 0x3843484E;
+
+const TAG_PLACE: usize = 1080;
+
+// The number that the tag's four bytes spell, each 0 past the end.
+fn tag_of(file: &[u8]) -> u32
+    ensures { λ r. ⌜ r ≡ fourAt (now (file .entry)) tagPlace ⌝ }
+{
+    let a = byte(file, TAG_PLACE);
+    let b = byte(file, TAG_PLACE + 1);
+    let c = byte(file, TAG_PLACE + 2);
+    let d = byte(file, TAG_PLACE + 3);
+    ((a * 256 + b) * 256 + c) * 256 + d
+}
+
+// How many channels a tag names, 0 for any other than the four.
+fn channels_of(tag: u32) -> usize
+    ensures { λ r. ⌜ r ≡ channelsOf tag ⌝ }
+{
+    if (tag == TAG_MK) | (tag == TAG_4CHN) {
+        return 4;
+    }
+    if tag == TAG_6CHN {
+        return 6;
+    }
+    if tag == TAG_8CHN {
+        return 8;
+    }
+    0
+}
+
+// The layout of a file of 31 samples, with as many channels as its tag names.
+pub fn layout_of(file: &[u8]) -> Layout
+    ensures { λ r. ⌜ r ≡ layoutOf (now (file .entry)) ⌝ }
     ensures { λ r. ⌜ LegalLayout r ⌝ }
 {
+    let channels = channels_of(tag_of(file));
     Layout {
         samples: 31,
-        channels: 4,
+        channels,
         song: 950,
         table: 952,
-        tag: 1080,
+        tag: TAG_PLACE,
         patterns: 1084,
     }
 }

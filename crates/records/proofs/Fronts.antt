@@ -11,7 +11,7 @@ use Rattle.common.specs.Bytes.{fourBytes}
 use Rattle.ticks.specs.declared.Command.{Command}
 use Rattle.ticks.specs.declared.Tick.{Tick}
 use Rattle.ticks.specs.Play.{over}
-use Rattle.records.specs.Format.{versionPlace, countPlace, recordsPlace, headBytes, tempoPlace, mask, channelsBytes, recordBytes, streamHeader}
+use Rattle.records.specs.Format.{versionPlace, channelsPlace, countPlace, recordsPlace, headBytes, tempoPlace, version, countByte, mask, channelsBytes, recordBytes, streamHeader}
 
 front : (xs room : List ℕ) → length xs ≤ length room → sets room 0 xs ≡ over xs room
 front xs room h = sets-eq xs room 0 (omega arith) ∙ ap (λ (k : ℕ). xs ++ drop k room) (zero-add (length xs))
@@ -20,8 +20,8 @@ front xs room h = sets-eq xs room 0 (omega arith) ∙ ap (λ (k : ℕ). xs ++ dr
 pub record-same : (room room′ xs : List ℕ) (m v : ℕ) → room′ ≡ sets (set (set room 0 m) tempoPlace v) headBytes xs → length room′ ≡ length room
 record-same room room′ xs m v e = rw e (simp (length-sets, length-set))
 
-pub header-same : (room room₁ room′ xs ys : List ℕ) (v : ℕ) → room₁ ≡ sets room 0 xs → room′ ≡ sets (set room₁ versionPlace v) countPlace ys → length room′ ≡ length room
-header-same room room₁ room′ xs ys v e q = rw (q, e) (simp (length-sets, length-set))
+pub header-same : (room room₁ room′ xs ys : List ℕ) (v c : ℕ) → room₁ ≡ sets room 0 xs → room′ ≡ sets (set (set room₁ versionPlace v) channelsPlace c) (countPlace + 1) ys → length room′ ≡ length room
+header-same room room₁ room′ xs ys v c e q = rw (q, e) (simp (length-sets, length-set))
 
 -- ---- a record
 module _ (c : ℕ) (registers : List Command) (t : Tick) where
@@ -47,10 +47,13 @@ module _ (c : ℕ) (registers : List Command) (t : Tick) where
     record-done room′ m e o = o ∙ rw e (unfold recordBytes in front (recordBytes c registers t) room h)
 
 -- ---- a header
-module _ (v follow count : ℕ) (room room₁ : List ℕ) (h : recordsPlace ≤ length room) (e : room₁ ≡ sets room 0 (fourBytes follow)) where
-  pub header-rest : countPlace + 4 ≤ length (set room₁ versionPlace v)
-  header-rest = simp (length-set, e, length-sets) h
+module _ (c follow count : ℕ) (room room₁ : List ℕ) (h : recordsPlace ≤ length room) (e : room₁ ≡ sets room 0 (fourBytes follow)) where
+  pub header-second : (v : ℕ) → channelsPlace < length (set room₁ versionPlace v)
+  header-second v = simp (length-set, e, length-sets) (omega arith)
 
-  pub header-done : (room′ : List ℕ) → room′ ≡ sets (set room₁ versionPlace v) countPlace (fourBytes count) → room′ ≡ over (streamHeader v follow count) room
-  unfolding streamHeader fourBytes
-  header-done room′ o = o ∙ rw e (front (streamHeader v follow count) room h)
+  pub header-rest : (v : ℕ) → countPlace + 1 + 4 ≤ length (set (set room₁ versionPlace v) channelsPlace c)
+  header-rest v = simp (length-set, e, length-sets) h
+
+  pub header-done : (room′ : List ℕ) → room′ ≡ sets (set (set room₁ versionPlace version) channelsPlace c) (countPlace + 1) (fourBytes count) → room′ ≡ over (streamHeader version c follow count) room
+  unfolding streamHeader countByte fourBytes
+  header-done room′ o = o ∙ rw e (front (streamHeader version c follow count) room h)

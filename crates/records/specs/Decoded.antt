@@ -8,12 +8,12 @@ use native.Mathlib.Omega.{arith}
 use lib.ListN.{length, getD, take, drop, length-take, List·getD-append}
 use lib.Seq.{length-front, getD-take, getD-drop, getD-append-add}
 use lib.Dec.{leb, ltb, eqb}
-use borrow.Author.Tests.{ltb-true, ltb-false}
+use borrow.Author.Tests.{ltb-true, ltb-false, eqb-true, not-false}
 use Rattle.laws.specs.Tests.{or-parts}
 use Rattle.laws.specs.Choice.{either}
 use Rattle.laws.specs.Every.{all-at, second-of}
 use Rattle.common.specs.Limits.{leastTempo, greatestTempo, between}
-use Rattle.common.specs.Bytes.{byteAt, fourAt}
+use Rattle.common.specs.Bytes.{byteAt}
 use Rattle.laws.specs.Ranges.{all}
 use Rattle.common.specs.LimitFacts.{between-has}
 use Rattle.common.specs.AnswerLaws.{refusing-has}
@@ -25,7 +25,7 @@ use Rattle.records.specs.Legal.{legalBeside}
 use Rattle.records.specs.LegalLaws.{beside-has, Unused}
 use Rattle.records.specs.Registers.{Beside, nothing-legal, Holding, first-at, first-holding, take-holding, tick-holding}
 use Rattle.records.specs.Reads.{on-good, not-read, passed, not-ticks, with-ticks}
-use Rattle.records.specs.Format.{versionPlace, countPlace, recordsPlace, headBytes, tempoPlace, bodyBytes, startPlace, atFirst, Read, bad, read, readOn, held, spelled, readBody, readChannel, readChannels, readTick, readRecord, Decoded, refusal, ticks, withTick, decodeRecords, decodeAfter, decode}
+use Rattle.records.specs.Format.{streamChannels, tickCount, firstRecord, headBytes, tempoPlace, bodyBytes, startPlace, atFirst, Read, bad, read, readOn, held, spelled, readBody, readChannel, readChannels, readTick, readRecord, Decoded, refusal, ticks, withTick, decodeRecords, decodeAfter, decode}
 
 -- ---- what is read is legal
 body-legal : (last : ℕ) (s : List ℕ) (at : ℕ) (r c : Command) (n : ℕ) → readBody last s at r ≡ read c n → LegalCommand last (r .sample) c
@@ -134,20 +134,23 @@ records-legal last c s (suc n) at registers ts l u e =
     rw (f .all) (more (g .legal) (records-legal last c s n (a .next) (t .commands) (f .others) (tick-holding last (soundingOf registers) t (g .legal)) (g .unused) (f .is)))
 
 -- ---- the whole stream
--- a stream of ticks ts: it has a header, its records read to ts, and these are legal
+-- a stream of ticks ts: it has a header, it is for so many channels, its records read to ts, and these are legal
 pub record StreamOf (last c : ℕ) (s : List ℕ) (ts : List Tick) : Type 0 where
-  pub long : recordsPlace ≤ length s
-  pub reads : decodeRecords last c s (fourAt s countPlace) recordsPlace atFirst ≡ ticks ts
+  pub long : firstRecord s ≤ length s
+  pub channels : streamChannels s ≡ c
+  pub reads : decodeRecords last c s (tickCount s) (firstRecord s) atFirst ≡ ticks ts
   pub legal : LegalTicks last (soundingOf atFirst) ts
 
 pub stream-of : (last c : ℕ) (s : List ℕ) (ts : List Tick) → decode last c s ≡ ticks ts → StreamOf last c s ts
 unfolding decodeAfter
 stream-of last c s ts =
-    refusing-has (λ (d : Decoded). d ≡ ticks ts → StreamOf last c s ts) refusal (decodeRecords last c s (fourAt s countPlace) recordsPlace atFirst) _
+    refusing-has (λ (d : Decoded). d ≡ ticks ts → StreamOf last c s ts) refusal (decodeRecords last c s (tickCount s) (firstRecord s) atFirst) _
     (λ number place e. absurd (not-ticks number place ts e))
     (λ p e.
+    let q = or-parts (ltb (length s) (firstRecord s)) (not (eqb (streamChannels s) c)) (p 2) in
     record {
-      long = ltb-false (length s) recordsPlace (or-parts (ltb (length s) recordsPlace) (not (eqb (length s) (versionPlace + fourAt s 0))) (p 0) .0);
+      long = ltb-false (length s) (firstRecord s) (q .0);
+      channels = eqb-true (streamChannels s) c (not-false (eqb (streamChannels s) c) (q .1));
       reads = e;
-      legal = records-legal last c s (fourAt s countPlace) recordsPlace atFirst ts (first-holding last) (λ i h. first-at i) e;
+      legal = records-legal last c s (tickCount s) (firstRecord s) atFirst ts (first-holding last) (λ i h. first-at i) e;
     })

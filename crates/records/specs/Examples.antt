@@ -1,4 +1,4 @@
--- The paper's two whole streams for one tick, of four channels: as they are written for any version, and as those of version 1 are read.
+-- The paper's two whole streams for one tick, of four channels and version 1: as they are written, and as they are read.
 -- Assumes nothing.
 use mathlib.Core.Path.{_≡_, refl}
 use mathlib.Core.Bool.{true, false}
@@ -10,7 +10,7 @@ use Rattle.common.specs.Bytes.{fourBytes, fourAt}
 use Rattle.common.specs.Answers.{refusing}
 use Rattle.ticks.specs.declared.Tick.{Tick}
 use Rattle.records.specs.Legal.{legalBeside}
-use Rattle.records.specs.Format.{knownVersion, keeps, atFirst, changed, mask, commandBytes, channelBytes, channelsBytes, recordBytes, records, streamHeader, encodeAfter, encode, readOn, held, spelled, readBody, readChannel, readChannels, readRecord, ticks, withTick, decodeRecords, decodeAfter, decode}
+use Rattle.records.specs.Format.{knownVersion, keeps, shift, streamChannels, atFirst, changed, mask, commandBytes, channelBytes, channelsBytes, recordBytes, records, countByte, streamHeader, encodeAfter, encode, readOn, held, spelled, readBody, readChannel, readChannels, readRecord, ticks, withTick, decodeRecords, decodeAfter, decode}
 
 -- an empty first row
 abbrev pub emptyRow : Tick
@@ -18,6 +18,10 @@ emptyRow = record { tempo = 125; commands = atFirst }
 
 abbrev pub emptyStream : ℕ → List ℕ
 emptyStream v = 0x00 ∷ 0x00 ∷ 0x00 ∷ 0x07 ∷ v ∷ 0x00 ∷ 0x00 ∷ 0x00 ∷ 0x01 ∷ 0x00 ∷ 0x7D ∷ []
+
+-- the same as version 3, for so many channels
+abbrev pub emptyCounted : ℕ → List ℕ
+emptyCounted c = 0x00 ∷ 0x00 ∷ 0x00 ∷ 0x08 ∷ 0x03 ∷ c ∷ 0x00 ∷ 0x00 ∷ 0x00 ∷ 0x01 ∷ 0x00 ∷ 0x7D ∷ []
 
 -- sample 1 at volume 64 with period 428 on channel 1
 abbrev pub note : Tick
@@ -28,14 +32,19 @@ noteStream v =
     0x00 ∷ 0x00 ∷ 0x00 ∷ 0x0D ∷ v ∷ 0x00 ∷ 0x00 ∷ 0x00 ∷ 0x01
     ∷ 0x01 ∷ 0x7D ∷ 0x01 ∷ 0x40 ∷ 0x01 ∷ 0xAC ∷ 0x01 ∷ 0x00 ∷ []
 
-pub whole-streams : (v : ℕ) → (encode v 4 (emptyRow ∷ []) ≡ emptyStream v) × (encode v 4 (note ∷ []) ≡ noteStream v)
-unfolding fourBytes atFirst changed mask commandBytes channelBytes channelsBytes recordBytes records streamHeader encodeAfter
-whole-streams v = (refl, refl)
+abbrev pub noteCounted : ℕ → List ℕ
+noteCounted c =
+    0x00 ∷ 0x00 ∷ 0x00 ∷ 0x0E ∷ 0x03 ∷ c ∷ 0x00 ∷ 0x00 ∷ 0x00 ∷ 0x01
+    ∷ 0x01 ∷ 0x7D ∷ 0x01 ∷ 0x40 ∷ 0x01 ∷ 0xAC ∷ 0x01 ∷ 0x00 ∷ []
 
--- those of version 1 decode, and their ticks keep no remainder
+pub whole-streams : (encode 0x01 4 (emptyRow ∷ []) ≡ emptyStream 0x01) × (encode 0x01 4 (note ∷ []) ≡ noteStream 0x01)
+unfolding fourBytes atFirst changed mask commandBytes channelBytes channelsBytes recordBytes records shift countByte streamHeader encodeAfter
+whole-streams = (refl, refl)
+
+-- they decode, and their ticks keep no remainder
 pub first-streams : (decode 31 4 (emptyStream 0x01) ≡ ticks (emptyRow ∷ []))
     × (decode 31 4 (noteStream 0x01) ≡ ticks (note ∷ []))
     × (keeps (emptyStream 0x01) ≡ false)
     × (keeps (noteStream 0x01) ≡ false)
-unfolding all allFrom fourAt refusing legalBeside knownVersion keeps atFirst readOn held spelled readBody readChannel readChannels readRecord withTick decodeRecords decodeAfter
+unfolding all allFrom fourAt refusing legalBeside knownVersion keeps shift streamChannels atFirst readOn held spelled readBody readChannel readChannels readRecord withTick decodeRecords decodeAfter
 first-streams = (refl, refl, refl, refl)

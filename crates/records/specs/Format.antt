@@ -20,13 +20,21 @@ use Rattle.records.specs.Legal.{legalBeside}
 abbrev pub versionPlace : ℕ
 versionPlace = 4
 
--- the tick count's place
+-- the channel count's place, where there is one
+abbrev pub channelsPlace : ℕ
+channelsPlace = 5
+
+-- the tick count's place where there is none, after the version
 abbrev pub countPlace : ℕ
 countPlace = 5
 
--- the first record's place
+-- and the first record's: no stream is shorter
+abbrev pub leastPlace : ℕ
+leastPlace = 9
+
+-- the first record's place in the version that is written, which has a channel count
 abbrev pub recordsPlace : ℕ
-recordsPlace = 9
+recordsPlace = 10
 
 -- a record's mask and tempo
 abbrev pub headBytes : ℕ
@@ -49,17 +57,45 @@ startPlace = 4
 abbrev pub firstVersion : ℕ
 firstVersion = 1
 
+-- the first version with a channel count byte after the version
+abbrev pub countedVersion : ℕ
+countedVersion = 3
+
 -- the version that is written
 abbrev pub version : ℕ
-version = 2
+version = 3
+
+-- older versions are for four channels
+abbrev pub oldChannels : ℕ
+oldChannels = 4
 
 -- the versions that are read
 unfoldable pub knownVersion : ℕ → Bool
 knownVersion v = between firstVersion version v
 
+-- a stream's version
+abbrev pub versionOf : List ℕ → ℕ
+versionOf s = byteAt s versionPlace
+
 -- whether a stream's ticks keep a remainder: version 1 streams play by the old rule
 unfoldable pub keeps : List ℕ → Bool
-keeps s = not (eqb (byteAt s versionPlace) firstVersion)
+keeps s = not (eqb (versionOf s) firstVersion)
+
+-- by how many bytes a version's channel count moves what comes after it
+unfoldable pub shift : ℕ → ℕ
+shift v = cond (ltb v countedVersion) 0 1
+
+-- how many channels a stream is for: 4 before version 3
+unfoldable pub streamChannels : List ℕ → ℕ
+streamChannels s = cond (ltb (versionOf s) countedVersion) oldChannels (byteAt s channelsPlace)
+
+-- its tick count
+abbrev pub tickCount : List ℕ → ℕ
+tickCount s = fourAt s (countPlace + shift (versionOf s))
+
+-- its first record's place
+abbrev pub firstRecord : List ℕ → ℕ
+firstRecord s = leastPlace + shift (versionOf s)
 
 -- ---- the writer
 -- the registers at first: 0
@@ -101,13 +137,17 @@ unfoldable pub records : ℕ → List Command → List Tick → List ℕ
 records c registers [] = []
 records c registers (t ∷ ts) = recordBytes c registers t ++ records c (t .commands) ts
 
--- four bytes: count of bytes that follow. Version. Four bytes: tick count N
-unfoldable pub streamHeader : ℕ → ℕ → ℕ → List ℕ
-streamHeader v follow n = fourBytes follow ++ (v ∷ fourBytes n)
+-- the channel count byte of a version that has one
+unfoldable pub countByte : ℕ → ℕ → List ℕ
+countByte v c = cond (ltb v countedVersion) [] (c ∷ [])
+
+-- four bytes: count of bytes that follow. Version. From version 3 on the channel count. Four bytes: tick count N
+unfoldable pub streamHeader : ℕ → ℕ → ℕ → ℕ → List ℕ
+streamHeader v c follow n = fourBytes follow ++ (v ∷ (countByte v c ++ fourBytes n))
 
 -- the header and N records
 unfoldable pub encodeAfter : ℕ → ℕ → List Command → List Tick → List ℕ
-encodeAfter v c registers ts = streamHeader v (recordsPlace - versionPlace + length (records c registers ts)) (length ts) ++ records c registers ts
+encodeAfter v c registers ts = streamHeader v c (leastPlace - versionPlace + shift v + length (records c registers ts)) (length ts) ++ records c registers ts
 
 -- from the registers at first
 abbrev pub encode : ℕ → ℕ → List Tick → List ℕ
@@ -187,12 +227,14 @@ decodeRecords last c s zero at registers = cond (eqb at (length s)) (ticks []) (
 decodeRecords last c s (suc n) at registers =
     readOn (refusal 23 at) (readRecord last c s at registers) (λ t p. withTick t (decodeRecords last c s n p (t .commands)))
 
--- 21: stream under 9 bytes, or its length isn't 4 plus its first number; its length. 22: version byte isn't 1 or 2; 4
+-- 21: stream under 9 bytes, or its length isn't 4 plus its first number; its length. 22: version byte isn't 1, 2 or 3; 4.
+-- 28: version 3 in under 10 bytes, or a count (4 before version 3) that isn't the module's; 4
 unfoldable pub decodeAfter : ℕ → ℕ → List Command → List ℕ → Decoded
 decodeAfter last c registers s =
-    refusing refusal (decodeRecords last c s (fourAt s countPlace) recordsPlace registers)
-    (line 21 (ltb (length s) recordsPlace || not (eqb (length s) (versionPlace + fourAt s 0))) (length s)
-    ∷ line 22 (not (knownVersion (byteAt s versionPlace))) versionPlace
+    refusing refusal (decodeRecords last c s (tickCount s) (firstRecord s) registers)
+    (line 21 (ltb (length s) leastPlace || not (eqb (length s) (versionPlace + fourAt s 0))) (length s)
+    ∷ line 22 (not (knownVersion (versionOf s))) versionPlace
+    ∷ line 28 (ltb (length s) (firstRecord s) || not (eqb (streamChannels s) c)) versionPlace
     ∷ [])
 
 -- from the registers at first

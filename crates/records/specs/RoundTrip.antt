@@ -1,14 +1,14 @@
--- What is written is read back: `decode-encode`, for any number of channels and every known version.
+-- What is written is read back: `decode-encode`, for any number of channels and every known version that can be for so many.
 -- Assumes nothing.
 use Prim.Native.Nat.{ℕ, zero, suc, _+_, _-_, _*_, _/_, _%_, _^_, _≤_, _<_}
-use mathlib.Core.Path.{_≡_, refl, sym, ap, _∙_}
+use mathlib.Core.Path.{_≡_, refl, sym, ap, subst, _∙_}
 use mathlib.Core.Bool.{Bool, true, false, not, cond, _||_, true≢false}
 use mathlib.Core.List.{List, [], _∷_, _++_, append-assoc}
 use native.Mathlib.Nat.{add-zero, add-assoc, div-add-mod'}
 use native.Mathlib.Omega.{arith}
 use lib.ListN.{length, take, drop, length-take, length-drop, length-append}
 use lib.Seq.{getD-take, ext-getD}
-use lib.Dec.{leb, eqb}
+use lib.Dec.{leb, ltb, eqb}
 use borrow.Author.Tests.{eq-eqb, ne-eqb, le-leb, le-ltb, eqb-true}
 use Rattle.laws.specs.Ranges.{all, allFrom}
 use Rattle.common.specs.LimitFacts.{between-by}
@@ -23,8 +23,8 @@ use Rattle.ticks.specs.declared.Tick.{Tick}
 use Rattle.ticks.specs.Legal.{LegalCommand, LegalTick, length-sounding, getD-sounding, LegalTicks, more}
 use Rattle.records.specs.LegalLaws.{beside-by, Unused, AllUnused}
 use Rattle.records.specs.Registers.{first-at, Beside}
-use Rattle.records.specs.Length.{stream-length}
-use Rattle.records.specs.Format.{versionPlace, countPlace, recordsPlace, headBytes, tempoPlace, bodyBytes, startPlace, knownVersion, atFirst, changed, mask, commandBytes, channelBytes, channelsBytes, recordBytes, records, streamHeader, encodeAfter, encode, read, readOn, held, spelled, readBody, readChannel, readChannels, readRecord, ticks, withTick, decodeRecords, decodeAfter, decode}
+use Rattle.records.specs.Length.{count-long, stream-length}
+use Rattle.records.specs.Format.{versionPlace, channelsPlace, countPlace, leastPlace, headBytes, tempoPlace, bodyBytes, startPlace, countedVersion, oldChannels, knownVersion, versionOf, shift, streamChannels, countByte, atFirst, changed, mask, commandBytes, channelBytes, channelsBytes, recordBytes, records, streamHeader, encodeAfter, encode, read, readOn, held, spelled, readBody, readChannel, readChannels, readRecord, ticks, withTick, decodeRecords, decodeAfter, decode}
 
 -- ---- a channel
 command-back : (s : List ℕ) (at : ℕ) (c : Command) (rest : List ℕ) → drop at s ≡ commandBytes c ++ rest → spelled s at ≡ c
@@ -131,19 +131,40 @@ records-back last c s registers (t ∷ ts) at (more l ls) u w h e =
     let ih = records-back last c s (t .commands) ts (at + length r) ls (w .0) (w .1) (omega (arith, all, length-append r (records c (t .commands) ts))) (drop-past s at r (records c (t .commands) ts) e) in
     rw (record-back last c s (records c (t .commands) ts) registers t at l u (w .0) e, ih)
 
-module _ (last c v : ℕ) (known : knownVersion v ≡ true) where
+-- the channels that a stream of a version is for
+count-back : (v c : ℕ) (s rest : List ℕ) → versionOf s ≡ v → drop channelsPlace s ≡ countByte v c ++ rest → streamChannels s ≡ cond (ltb v countedVersion) oldChannels c
+unfolding streamChannels countByte
+count-back v c s rest e q = rw e (by (ltb v countedVersion) q)
+  where
+    by : (b : Bool) → drop channelsPlace s ≡ cond b [] (c ∷ []) ++ rest → cond b oldChannels (byteAt s channelsPlace) ≡ cond b oldChannels c
+    by true q = refl
+    by false q = at-position s channelsPlace _ q
+
+-- a version that is read, and that can be for so many channels
+pub record Versioned (v c : ℕ) : Type 0 where
+  pub known : knownVersion v ≡ true
+  pub channels : cond (ltb v countedVersion) oldChannels c ≡ c
+
+module _ (last c v : ℕ) (versioned : Versioned v c) where
   pub decode-encode-after : (registers : List Command) (ts : List Tick) → Unused c registers → LegalTicks last (soundingOf registers) ts → AllUnused c ts → length ts < 2 ^ 32 → length (encodeAfter v c registers ts) < 2 ^ 32
       → decodeAfter last c registers (encodeAfter v c registers ts) ≡ ticks ts
   unfolding decodeAfter refusing encodeAfter streamHeader fourBytes
   decode-encode-after registers ts u l w h k =
       let s : List ℕ = encodeAfter v c registers ts in
       let rs : List ℕ = records c registers ts in
-      let follow : ℕ = recordsPlace - versionPlace + length rs in
-      let long : length s ≡ recordsPlace + length rs = stream-length v c registers ts in
-      let first : fourAt s 0 ≡ follow = four-back s 0 follow (v ∷ (fourBytes (length ts) ++ rs)) (omega arith) refl in
+      let b : List ℕ = countByte v c in
+      let n : List ℕ = fourBytes (length ts) in
+      let follow : ℕ = leastPlace - versionPlace + shift v + length rs in
+      let long : length s ≡ leastPlace + shift v + length rs = stream-length v c registers ts in
+      let first : fourAt s 0 ≡ follow = four-back s 0 follow (v ∷ ((b ++ n) ++ rs)) (omega arith) refl in
       let whole : length s ≡ versionPlace + fourAt s 0 = omega arith in
-      let count : fourAt s countPlace ≡ length ts = four-back s countPlace (length ts) rs h refl in
-      rw (le-ltb (length s) recordsPlace (omega arith), eq-eqb (length s) (versionPlace + fourAt s 0) whole, known, count, records-back last c s registers ts recordsPlace l u w (omega arith) refl)
+      let counted : drop channelsPlace s ≡ b ++ (n ++ rs) = append-assoc b n rs in
+      let ticked : drop (countPlace + shift v) s ≡ n ++ rs = subst (λ (k : ℕ). drop (countPlace + k) s ≡ n ++ rs) (count-long v c) (drop-past s countPlace b (n ++ rs) counted) in
+      let at : countPlace + shift v + length n ≡ leastPlace + shift v = omega arith in
+      let recorded : drop (leastPlace + shift v) s ≡ rs = subst (λ (k : ℕ). drop k s ≡ rs) at (drop-past s (countPlace + shift v) n rs ticked) in
+      let count : fourAt s (countPlace + shift v) ≡ length ts = four-back s (countPlace + shift v) (length ts) rs h ticked in
+      let channels : streamChannels s ≡ c = count-back v c s (n ++ rs) refl counted ∙ versioned .channels in
+      rw (le-ltb (length s) leastPlace (omega arith), eq-eqb (length s) (versionPlace + fourAt s 0) whole, versioned .known, le-ltb (length s) (leastPlace + shift v) (omega arith), eq-eqb (streamChannels s) c channels, count, records-back last c s registers ts (leastPlace + shift v) l u w (omega arith) recorded)
 
   -- the ticks of a stream that was written for them
   pub decode-encode : (ts : List Tick) → LegalTicks last (soundingOf atFirst) ts → AllUnused c ts → length ts < 2 ^ 32 → length (encode v c ts) < 2 ^ 32 → decode last c (encode v c ts) ≡ ticks ts

@@ -8,23 +8,34 @@ ghost use Rattle.common.specs.Limits.{width};
 ghost use Rattle.common.specs.Bytes.{bit};
 ghost use Rattle.ticks.specs.Play.{over};
 ghost use Rattle.records.specs.LegalLaws.{Spellable, AllSpellable, SpellableTick};
-ghost use Rattle.records.specs.Format.{recordsPlace, headBytes, bodyBytes, atFirst, changed, mask, commandBytes, channelBytes, channelsBytes, recordBytes, streamHeader};
+ghost use Rattle.records.specs.Format.{recordsPlace, headBytes, bodyBytes, version, atFirst, changed, mask, commandBytes, channelBytes, channelsBytes, recordBytes, streamHeader};
 use common::bytes::bit_of;
 use common::bytes::put_four;
 use common::limits::WIDTH;
 use ticks::Command;
 use ticks::Tick;
 
-// The first version, the version that is written, the version's place, and those of the tick count and the first record.
+// The first version, the first with a channel count after the version, and the version that is written.
 pub const FIRST_VERSION: u8 = 1;
 
-pub const VERSION: u8 = 2;
+pub const COUNTED_VERSION: u8 = 3;
 
+pub const VERSION: u8 = 3;
+
+// Older versions are for four channels.
+pub const OLD_CHANNELS: usize = 4;
+
+// The places of the version and of a channel count; of the tick count and the first record where there is no channel count.
 pub const VERSION_PLACE: usize = 4;
+
+pub const CHANNELS_PLACE: usize = 5;
 
 pub const COUNT_PLACE: usize = 5;
 
-pub const RECORDS_PLACE: usize = 9;
+pub const LEAST_PLACE: usize = 9;
+
+// The first record's place in the version that is written.
+pub const RECORDS_PLACE: usize = 10;
 
 // The bytes of a record's mask and tempo, and the tempo's place.
 pub const HEAD_BYTES: usize = 2;
@@ -191,12 +202,14 @@ pub fn put_record(
     put_channels(channels, registers, commands, HEAD_BYTES, room)
 }
 
-// Writes a stream's header at the front of the room: how many bytes follow its first four, and how many ticks it has.
-pub fn put_header(version: u8, follow: usize, count: usize, room: &mut [u8])
-    requires { ⌜ recordsPlace ≤ length (now room) ⌝ }
-    ensures { λ _. ⌜ now (room .exit) ≡ over (streamHeader version follow count) (now (room .entry)) ⌝ }
+// Writes a stream's header at the front of the room: how many bytes follow its first four, how many channels and how many ticks it has.
+pub fn put_header(channels: usize, follow: usize, count: usize, room: &mut [u8])
+    requires few { ⌜ channels ≤ width ⌝ }
+    requires fits { ⌜ recordsPlace ≤ length (now room) ⌝ }
+    ensures { λ _. ⌜ now (room .exit) ≡ over (streamHeader version channels follow count) (now (room .entry)) ⌝ }
 {
     put_four(follow, 0, room);
-    room[VERSION_PLACE] = version;
-    put_four(count, COUNT_PLACE, room);
+    room[VERSION_PLACE] = VERSION;
+    room[CHANNELS_PLACE] = channels as u8;
+    put_four(count, COUNT_PLACE + 1, room);
 }

@@ -13,34 +13,29 @@ use borrow.Rule.Slice.PartMut.{putMid}
 use Rattle.laws.specs.Lent.{tail-long}
 use Rattle.common.specs.Answers.{outcome, refused, accepted}
 use Rattle.common.specs.AnswerLaws.{line-given, line-passed}
-use Rattle.common.specs.Bytes.{fourBytes}
 use Rattle.common.specs.Limits.{width}
 use Rattle.common.specs.declared.Answer.{Answer}
 use Rattle.ticks.specs.Play.{over}
 use Rattle.reader.specs.declared.Layout.{Layout}
-use Rattle.reader.specs.File.{Module, lent, fourChannels, moduleOf, channelCount}
+use Rattle.reader.specs.File.{Module, lent, layoutOf, moduleOf, channelCount}
 use Rattle.reader.specs.Judge.{verdict}
 use Rattle.reader.specs.Accept.{accepted-by, verdict-answer, module-given, module-passed}
 use Rattle.sequencer.specs.Songs.{freshSong, freshSounding}
 use Rattle.sequencer.specs.RunLaws.{length-ticks}
-use Rattle.records.specs.Format.{versionPlace, recordsPlace, headBytes, bodyBytes, version, atFirst, streamHeader, encodeAfter}
-use Rattle.records.specs.Length.{stream-length}
+use Rattle.records.specs.Format.{versionPlace, recordsPlace, headBytes, bodyBytes, version, shift, atFirst, streamHeader, encodeAfter}
+use Rattle.records.specs.Length.{written-header, written-length}
 use Rattle.translator.specs.Translate.{freshTicks, streamOf, mostTicks, written, translateOf}
 use Rattle.translator.specs.Passes.{mostBytes, Asked, recordsOf}
 use Rattle.translator.specs.Streams.{stream-bound, translated}
 use Rattle.translator.proofs.Over.{over-before}
 
 -- ---- the stream: the records over the room's rest, and then the header at its front
-header-long : (v follow n : ℕ) → length (streamHeader v follow n) ≡ recordsPlace
-unfolding streamHeader fourBytes
-header-long v follow n = refl
-
 module _ (layout : Layout) (bytes : List ℕ) (n : ℕ) (room : List ℕ) (h : length (streamOf (lent layout bytes) n) ≤ length room) where
   abbrev m : Module
   m = lent layout bytes
 
   long : length (streamOf m n) ≡ recordsPlace + length (recordsOf m n)
-  long = stream-length version (channelCount m) atFirst (freshTicks m n)
+  long = written-length (channelCount m) atFirst (freshTicks m n)
 
   pub rest-inside : recordsPlace ≤ length room
   rest-inside = omega (arith, long)
@@ -57,13 +52,13 @@ module _ (layout : Layout) (bytes : List ℕ) (n : ℕ) (room : List ℕ) (h : l
     stream-fits k = record { fits = omega (arith, long) }
 
     module _ (part : List ℕ) (o : part ≡ over (recordsOf (lent layout bytes) n) (take (length room - recordsPlace) (drop recordsPlace room))) where
-      pub stream-written : (room′ : List ℕ) → room′ ≡ over (streamHeader version (recordsPlace + l - versionPlace) n) (putMid recordsPlace (length room - recordsPlace) room part)
+      pub stream-written : (room′ : List ℕ) → room′ ≡ over (streamHeader version (layout .channels) (recordsPlace + l - versionPlace) n) (putMid recordsPlace (length room - recordsPlace) room part)
           → outcome (accepted (recordsPlace + l)) room′ ≡ written (lent layout bytes) n room
-      unfolding encodeAfter
+      unfolding encodeAfter shift
       stream-written room′ q =
           let f : recordsPlace + l - versionPlace ≡ recordsPlace - versionPlace + length (recordsOf m n) = omega arith in
-          let s = streamHeader version (recordsPlace + l - versionPlace) n in
-          let w : room′ ≡ over (streamOf m n) room = q ∙ over-before recordsPlace s (recordsOf m n) room part (header-long _ _ _) rest-inside o ∙ rw (f, length-ticks m n freshSong freshSounding) in
+          let s = streamHeader version (layout .channels) (recordsPlace + l - versionPlace) n in
+          let w : room′ ≡ over (streamOf m n) room = q ∙ over-before recordsPlace s (recordsOf m n) room part (written-header _ _ _) rest-inside o ∙ rw (f, length-ticks m n freshSong freshSounding) in
           rw (w, long, e)
 
 pub ruleset stream-laws = (rest-inside, header-inside, rest-fits, stream-fits, stream-written)
@@ -90,7 +85,7 @@ asked-stream layout bytes n room len e = record { short = λ h. e; enough = λ h
 pub translate-fits : (layout : Layout) (bytes : List ℕ) (n len : ℕ) (room : List ℕ) → Asked (lent layout bytes) n (length room) len → len ≤ length room → length (streamOf (lent layout bytes) n) ≤ length room
 translate-fits layout bytes n len room l h = l .enough h
 
-module _ (layout : Layout) (bytes : List ℕ) (le : layout ≡ fourChannels) (v : Answer) (j : v ≡ verdict (lent layout bytes)) (n : ℕ) (room : List ℕ) where
+module _ (layout : Layout) (bytes : List ℕ) (le : layout ≡ layoutOf bytes) (v : Answer) (j : v ≡ verdict (lent layout bytes)) (n : ℕ) (room : List ℕ) where
   here : v ≡ verdict (moduleOf bytes)
   here = rw le at j
 

@@ -25,9 +25,9 @@ use Rattle.sequencer.specs.declared.Worked.{Worked}
 use Rattle.sequencer.specs.Songs.{freshSong, tickOf}
 use Rattle.sequencer.specs.Runs.{ticksFrom}
 use Rattle.sequencer.specs.RunLaws.{run-tick, run-kept}
-use Rattle.records.specs.Format.{recordsPlace, version, atFirst, recordBytes, records}
+use Rattle.records.specs.Format.{recordsPlace, atFirst, recordBytes, records}
 use Rattle.records.specs.LegalLaws.{tick-spellable, SpellableTick}
-use Rattle.records.specs.Length.{stream-length}
+use Rattle.records.specs.Length.{written-length}
 use Rattle.translator.specs.Translate.{freshTicks, streamOf}
 use Rattle.translator.specs.Passes.{recordsOf, Translatable}
 use Rattle.translator.specs.Streams.{first-sounding, first-run, stream-bound}
@@ -74,7 +74,7 @@ module _ (layout : Layout) (bytes : List ℕ) (n : ℕ) (s : Song) (rs : List Co
     parts = omega (arith, p .long, ap length (p .whole), length-append (p .front) (leftOf m s rs left))
 
     most-bytes : recordsPlace + length (recordsOf m n) < 2 ^ 64
-    most-bytes = omega (arith, p .few, stream-bound m width n (p .translatable .layout .channels), stream-length version (channelCount m) atFirst (freshTicks m n))
+    most-bytes = omega (arith, p .few, stream-bound m width n (p .translatable .layout .channels), written-length (channelCount m) atFirst (freshTicks m n))
 
     -- none are left
     pub pass-all : left ≤ 0 → len ≡ length (recordsOf (lent layout bytes) n)
@@ -82,7 +82,7 @@ module _ (layout : Layout) (bytes : List ℕ) (n : ℕ) (s : Song) (rs : List Co
 
     -- with the header they are the stream
     pub pass-stream : left ≤ 0 → recordsPlace + len ≡ length (streamOf (lent layout bytes) n)
-    pass-stream h = omega (arith, pass-all h, stream-length version (channelCount m) atFirst (freshTicks m n))
+    pass-stream h = omega (arith, pass-all h, written-length (channelCount m) atFirst (freshTicks m n))
 
     pub pass-fits : Fits w64 (recordsPlace + len)
     pass-fits = record { fits = omega (arith, parts, most-bytes) }

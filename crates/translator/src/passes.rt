@@ -18,7 +18,6 @@ use reader::Layout;
 use records::BODY_BYTES;
 use records::HEAD_BYTES;
 use records::RECORDS_PLACE;
-use records::VERSION;
 use records::VERSION_PLACE;
 use sequencer::Song;
 use sequencer::Worked;
@@ -109,6 +108,6 @@ pub fn write_stream(layout: Layout, file: &[u8], ticks: u32, room: &mut [u8]) ->
     ensures { λ n. ⌜ outcome (accepted n) (now (room .exit)) ≡ written (lent layout (now (file .entry))) ticks (now (room .entry)) ⌝ }
 {
     let len = RECORDS_PLACE + write_records(layout, file, ticks, &mut room[RECORDS_PLACE..]);
-    records::put_header(VERSION, len - VERSION_PLACE, ticks as usize, room);
+    records::put_header(layout.channels, len - VERSION_PLACE, ticks as usize, room);
     len
 }

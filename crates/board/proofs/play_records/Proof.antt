@@ -1,6 +1,6 @@
 -- The loop: the ticks that are played, followed by those of the records that are left, are the stream's from the first on (`Turning`).
 use Rattle.machine.specs.Carries.{itself}
-use Rattle.board.specs.Turning.{good-long, Turning, turning-layout, turning-few, turning-low, turning-within, turning-narrow, turning-next, turning-count, turning-some, turning-ready, turning-long, turning-more}
+use Rattle.board.specs.Turning.{good-least, Turning, turning-layout, turning-few, turning-low, turning-within, turning-narrow, turning-next, turning-count, turning-some, turning-ready, turning-long, turning-more}
 use Rattle.board.proofs.Turns.{ruled, turning-begin, ended-all, ended-full}
 use Prim.Native.Nat.{_-_}
 use lib.IntN.{ℤ}
@@ -27,7 +27,7 @@ play-records-spec =
     μ-loop
     (λ c κs. search needs)
     (λ c. search needs)
-    (λ c κs. search (good-long, needs))
+    (λ c κs. search (good-least, needs))
     (λ c κs. search needs)
     loop-holds
     (λ c κs. search (turning-few, needs))

@@ -1,5 +1,5 @@
 -- The loop: the ticks that are played, followed by those of the records that are left, are the stream's from the first on, on the machine that plays floats (`Sounding`).
-use Rattle.board.specs.Turning.{good-long, turning-few, turning-within, turning-narrow, turning-next, turning-count}
+use Rattle.board.specs.Turning.{good-least, turning-few, turning-within, turning-narrow, turning-next, turning-count}
 use Rattle.float_board.proofs.Turns.{Sounding, sounding-begin, sounding-due, sounding-long, sounding-more, ended-all, ended-full}
 use Prim.Native.Nat.{_-_}
 use borrow.Author.Needs.{needs}
@@ -42,7 +42,7 @@ play-records-spec =
     (tie.spec
     Inv-loop
     μ-loop
-    (λ c κs. search needs) (λ c κs. search (good-long, needs)) (λ c. search needs) (λ c κs. search needs)
+    (λ c κs. search needs) (λ c κs. search (good-least, needs)) (λ c. search needs) (λ c κs. search needs)
     loop-holds
     (λ c κs. search (turning-few, needs))
     (λ c. search (turning-within, turning-narrow, needs))

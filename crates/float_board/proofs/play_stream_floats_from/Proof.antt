@@ -1,4 +1,4 @@
--- The tests are those of the table, 1 to 9, then 24 and then 21 to 23; the play is what the call ensures.
+-- The tests are those of the table, 1 to 9, then 24 and then 21, 22, 28 and 23; the play is what the call ensures.
 use Rattle.decoder.specs.Remaining.{checked-good}
 use Rattle.reader.specs.Accept.{accepted-by}
 use Rattle.floats.specs.Theorems.{asked-some, asked-few}
@@ -15,4 +15,4 @@ pub play-stream-floats-from-spec : {M : Type 1} → statement M
 play-stream-floats-from-spec =
     tie.close
     (tie.spec (λ c κs. search needs) (λ c κs. search needs) (λ c κs. search needs) (λ c. search (module-refused, needs)) (λ c κs. search needs) (λ c κs. search needs) (λ c. search (sides-refused, needs))
-    (λ c. search needs) (λ c κs. search needs) (λ c κs. search needs) (λ c. search (stream-refused, needs)) play-records-requires (λ c. search needs) (λ c. search (stream-played, needs)))
+    (λ c. search needs) (λ c κs. search needs) (λ c κs. search needs) (λ c. search (stream-refused, needs)) play-records-requires (λ c. search needs) (λ c. search (stream-played, c .before .before .before .before .before .before .before .before .before .before .before .before .before .layout-of .ensures .0, needs)))

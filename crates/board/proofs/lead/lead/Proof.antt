@@ -2,7 +2,7 @@
 use borrow.Author.Needs.{needs}
 use Prim.Native.Nat.{_-_}
 use Rattle.board.specs.Leading.{Leading, leading-none, leading-layout, leading-few, leading-low, leading-some, leading-ready, leading-more, leading-end}
-use Rattle.board.specs.Turning.{good-long}
+use Rattle.board.specs.Turning.{good-long, good-least}
 use Rattle.board.proofs.lead.lead.Statement.{statement}
 use Rattle.board.proofs.lead.lead.Tie as tie
 
@@ -23,6 +23,7 @@ lead-spec =
     (λ c κs. search needs)
     (λ c κs. search needs)
     (λ c κs. search needs)
+    (λ c κs. search (good-least, needs))
     (λ c. search (leading-none, needs))
     (λ c κs. search (leading-few, needs))
     (λ c κs. (search (leading-layout, needs), (search (leading-ready, needs), (search (leading-some, needs), search (leading-low, needs)))))
