@@ -23,11 +23,12 @@
    tick's 16-bit numbers there.
 
    FRAMES
-   48,000 frames a second, two signed 16-bit numbers a frame, left first. A tick has (120,000 + remainder) div tempo frames, and the
-   rest modulo tempo is the next tick's remainder, so that n ticks at one tempo have (120,000 n) div tempo frames: 960 a tick at tempo
-   125, 470 or 471 at tempo 255, never more than 3,750. A tick whose tempo is not that of the tick before begins with remainder 0. Only
-   whole ticks are played, so a buffer of LAMPTHISTLE_TICK_NUMBERS always takes one. To pull sound as it is needed, play one tick a
-   call; lampthistle_tick_numbers then says how many numbers it wrote.
+   48,000 frames a second, two signed 16-bit numbers a frame, left first. Channels 1, 4, 5 and 8 are left, 2, 3, 6 and 7 right, as far as
+   the module has them; with four channels a side is twice their sum, with six and eight the plain sum. A tick has (120,000 + remainder)
+   div tempo frames, and the rest modulo tempo is the next tick's remainder, so that n ticks at one tempo have (120,000 n) div tempo
+   frames: 960 a tick at tempo 125, 470 or 471 at tempo 255, never more than 3,750. A tick whose tempo is not that of the tick before
+   begins with remainder 0. Only whole ticks are played, so a buffer of LAMPTHISTLE_TICK_NUMBERS always takes one. To pull sound as it is
+   needed, play one tick a call; lampthistle_tick_numbers then says how many numbers it wrote.
 
    FLOATS
    play_floats, play_stream_floats and play_stream_floats_from play the same ticks as 32-bit floats, for as many sides as are asked
@@ -44,7 +45,9 @@
 
    STATES
    A state is LAMPTHISTLE_STATE_CELLS plain numbers. lampthistle_fresh makes the first one; it may be copied, stored and sent, and
-   played on later. Each call that takes a state judges the module first, then the state against the module.
+   played on later. Each call that takes a state judges the module first, then the state against the module. Every state has
+   LAMPTHISTLE_CHANNELS channels. A module has as many as its tag names: 4 for M.K. and 4CHN, 6 for 6CHN, 8 for 8CHN, as
+   lampthistle_channels says. In a state for it the channels past these are as in a fresh one; with anything else there it is refused.
 
    VERSIONS
    Cells, refusals and calls are the same in all versions that differ in their last number alone. Otherwise they may differ: then this
@@ -63,9 +66,10 @@
 
    STREAMS
    A stream holds the ticks of a song as registers for a sound board: tempo, and for each channel sample, volume, period and start.
-   The board takes samples from the module, never its patterns or table. Translation writes version 2, whose ticks are as long as the
-   player's. A stream of version 1, which the library wrote before 0.2.0, is played as it was then: each tick has 120,000 div tempo
-   frames, with no remainder. docs/FORMATS.md gives every byte.
+   The board takes samples from the module, never its patterns or table. Translation writes version 3, which names the module's channel
+   count; a stream is played with modules of its count alone. Streams of version 2, which the library wrote before 0.6.0, and of
+   version 1, before 0.2.0, are for four channels and sound as they did: by version 1 each tick has 120,000 div tempo frames, with no
+   remainder. docs/FORMATS.md gives every byte.
    A stream is rendered piece by piece in a small buffer by play_stream_from, each piece from the tick after the last that was counted.
    Any piece can be played by itself: its frames are those of the whole play. A call first runs the ticks before its own, without
    writing them, so that a larger buffer, with fewer calls, takes less time. */
@@ -80,17 +84,18 @@ extern "C" {
 #endif
 
 #define LAMPTHISTLE_VERSION_MAJOR 0
-#define LAMPTHISTLE_VERSION_MINOR 5
+#define LAMPTHISTLE_VERSION_MINOR 6
 #define LAMPTHISTLE_VERSION_PATCH 0
 /* This header's version as one number, and as text. */
 #define LAMPTHISTLE_VERSION (1000000 * LAMPTHISTLE_VERSION_MAJOR + 1000 * LAMPTHISTLE_VERSION_MINOR + LAMPTHISTLE_VERSION_PATCH)
-#define LAMPTHISTLE_VERSION_TEXT "0.5.0"
+#define LAMPTHISTLE_VERSION_TEXT "0.6.0"
 /* Whether cells, refusals and calls of a version are those of this header. */
 #define LAMPTHISTLE_SAME_CELLS(version) ((version) / 1000 == LAMPTHISTLE_VERSION / 1000)
 
 #define LAMPTHISTLE_RATE 48000
-#define LAMPTHISTLE_CHANNELS 4
-#define LAMPTHISTLE_STATE_CELLS 89
+/* The channels of a state, and the most that a module has; lampthistle_channels says how many one has. */
+#define LAMPTHISTLE_CHANNELS 8
+#define LAMPTHISTLE_STATE_CELLS 165
 /* The most numbers that one tick takes: 3,750 frames at tempo 32. */
 #define LAMPTHISTLE_TICK_NUMBERS 7500
 /* The sides of a frame of floats. */
@@ -101,7 +106,7 @@ extern "C" {
 /* The most touches that one burst takes. */
 #define LAMPTHISTLE_MOST_TOUCHES 64
 /* The most stack that one call takes, and one that plays floats. */
-#define LAMPTHISTLE_STACK_BYTES 12288
+#define LAMPTHISTLE_STACK_BYTES 16384
 #define LAMPTHISTLE_FLOAT_STACK_BYTES 32768
 
 /* An answer's cells. */
@@ -112,8 +117,8 @@ enum lampthistle_answer_cell {
     LAMPTHISTLE_ANSWER_CELLS
 };
 
-/* An answer's numbers, each with its place. The smallest number wins, but SIDES comes before those of a stream; of bad cells the first
-   in the file decides, with SAMPLE_NUMBER before PERIOD in one cell. */
+/* An answer's numbers, each with its place. The smallest number wins, but 24 comes before those of a stream, and of these 28 comes after
+   22 and before 23; of bad cells the first in the file decides, with 8 before 9 in one cell. */
 enum lampthistle_refusal {
     LAMPTHISTLE_ACCEPTED = 0,
     /* of the file, by every call that is lent one */
@@ -138,6 +143,7 @@ enum lampthistle_refusal {
     /* of a stream */
     LAMPTHISTLE_REFUSED_STREAM_LENGTH = 21,  /* its length */
     LAMPTHISTLE_REFUSED_STREAM_VERSION = 22, /* 4 */
+    LAMPTHISTLE_REFUSED_CHANNEL_COUNT = 28,  /* 4 */
     LAMPTHISTLE_REFUSED_RECORD = 23,         /* that record, or the first byte left */
     /* of a play as floats */
     LAMPTHISTLE_REFUSED_SIDES = 24, /* 0 */
@@ -154,7 +160,7 @@ static inline const char *lampthistle_refusal_text(uint64_t number) {
     switch (number) {
     case LAMPTHISTLE_ACCEPTED: return "accepted";
     case LAMPTHISTLE_REFUSED_SHORT_FILE: return "the file is shorter than 1,084 bytes";
-    case LAMPTHISTLE_REFUSED_TAG: return "the tag at byte 1080 is not M.K.";
+    case LAMPTHISTLE_REFUSED_TAG: return "the tag at byte 1080 is not M.K., 4CHN, 6CHN or 8CHN";
     case LAMPTHISTLE_REFUSED_SONG_LENGTH: return "the song length is 0 or above 128";
     case LAMPTHISTLE_REFUSED_TABLE_ENTRY: return "a table entry is above 63";
     case LAMPTHISTLE_REFUSED_VOLUME: return "a sample's volume is above 64";
@@ -170,10 +176,12 @@ static inline const char *lampthistle_refusal_text(uint64_t number) {
     case LAMPTHISTLE_REFUSED_POSITION: return "the touch names a position at or past the song length";
     case LAMPTHISTLE_REFUSED_STREAM_LENGTH:
         return "the stream is shorter than 9 bytes, or its length is not 4 plus its first number";
-    case LAMPTHISTLE_REFUSED_STREAM_VERSION: return "the stream's version is neither 1 nor 2";
+    case LAMPTHISTLE_REFUSED_STREAM_VERSION: return "the stream's version is not 1, 2 or 3";
+    case LAMPTHISTLE_REFUSED_CHANNEL_COUNT:
+        return "the stream's channel count is not the module's, or version 3 is shorter than 10 bytes";
     case LAMPTHISTLE_REFUSED_RECORD: return "a record of the stream is bad, or bytes are left over";
     case LAMPTHISTLE_REFUSED_SIDES: return "the sides asked for are neither 1 nor 2";
-    case LAMPTHISTLE_REFUSED_CHANNEL: return "the channel is not 1 to 4";
+    case LAMPTHISTLE_REFUSED_CHANNEL: return "the module has no channel of this number";
     case LAMPTHISTLE_REFUSED_TOUCHES: return "a touch list is longer than 64";
     case LAMPTHISTLE_REFUSED_ANSWERS: return "the answer list is shorter than the longest touch list";
     case LAMPTHISTLE_REFUSED_LISTS: return "the touch lists are not equally long";
@@ -223,7 +231,7 @@ enum lampthistle_cell {
     LAMPTHISTLE_REMAINDER, /* what the ticks at this tempo left over, below the tempo */
     LAMPTHISTLE_CLOCK,     /* ticks played, modulo 2^32 */
     LAMPTHISTLE_PAGE,
-    LAMPTHISTLE_FIRST_CHANNEL /* the four channels' cells begin here */
+    LAMPTHISTLE_FIRST_CHANNEL /* the channels' cells begin here */
 };
 
 /* A channel's cells. A wave's x, what its place gains with each use, and y, its depth, are remembered; its place is 0 to 63, its form a
@@ -282,6 +290,10 @@ uint32_t lampthistle_version(void);
 /* Whether the bytes are a module that can be played: refusals 1 to 9. */
 void lampthistle_judge(const uint8_t *file, size_t file_len, uint64_t answer[LAMPTHISTLE_ANSWER_CELLS]);
 
+/* How many channels the file's tag names: 4, 6 or 8; 0 where the file is too short to have a tag, or the tag is another, so that
+   lampthistle_judge answers 1 or 2. Nothing else of the file is looked at. */
+uint32_t lampthistle_channels(const uint8_t *file, size_t file_len);
+
 /* Writes the state before the first tick of any song: position, row, remainder and clock 0, speed 6, tempo 125, voices stopped. */
 void lampthistle_fresh(uint32_t state[LAMPTHISTLE_STATE_CELLS]);
 
@@ -314,24 +326,24 @@ void lampthistle_touch_burst(const uint8_t *file, size_t file_len, uint32_t stat
 void lampthistle_change_page(const uint8_t *file, size_t file_len, uint32_t state[LAMPTHISTLE_STATE_CELLS],
                              uint64_t answer[LAMPTHISTLE_ANSWER_CELLS]);
 
-/* Why a channel, 1 to 4, is quiet in the next frame, or that it sounds; the count is an enum lampthistle_cause. The state stays. Refusals
-   1 to 9, 14, 25. */
+/* Why a channel of the module, counted from 1, is quiet in the next frame, or that it sounds; the count is an enum lampthistle_cause. The
+   state stays. Refusals 1 to 9, 14, 25. */
 void lampthistle_why_quiet(const uint8_t *file, size_t file_len, const uint32_t state[LAMPTHISTLE_STATE_CELLS],
                            uint32_t channel, uint64_t answer[LAMPTHISTLE_ANSWER_CELLS]);
 
-/* Writes the stream, of version 2, of the song's first `ticks` ticks, from the fresh state, into `room`; counts its bytes. Room past
+/* Writes the stream, of version 3, of the song's first `ticks` ticks, from the fresh state, into `room`; counts its bytes. Room past
    them stays. With room_len 0 it is a question for the length needed (12). Refusals 1 to 9, 11, 12. */
 void lampthistle_translate(const uint8_t *file, size_t file_len, uint32_t ticks,
                            uint8_t *room, size_t room_len, uint64_t answer[LAMPTHISTLE_ANSWER_CELLS]);
 
-/* Plays the largest number of the ticks of a stream of version 1 or 2 whose frames fit into `out`, from its first tick, stopped voices
-   and remainder 0, with the samples of the module; counts them. The rest of `out` stays. Refusals 1 to 9, 21 to 23; every record is
-   judged, also those that do not fit. */
+/* Plays the largest number of the ticks of a stream whose frames fit into `out`, from its first tick, stopped voices and remainder 0,
+   with the samples of the module; counts them. The rest of `out` stays. Refusals 1 to 9, 21, 22, 28, 23; every record is judged, also
+   those that do not fit. */
 void lampthistle_play_stream(const uint8_t *stream, size_t stream_len, const uint8_t *file, size_t file_len,
                              int16_t *out, size_t out_len, uint64_t answer[LAMPTHISTLE_ANSWER_CELLS]);
 
 /* Plays as lampthistle_play_stream does, but floats for 1 or 2 `sides`, with `pair` and `pair_tick` as in lampthistle_play_floats.
-   Refusals 1 to 9, 24, 21 to 23, in this order. */
+   Refusals 1 to 9, 24, 21, 22, 28, 23, in this order. */
 void lampthistle_play_stream_floats(const uint8_t *stream, size_t stream_len, const uint8_t *file, size_t file_len,
                                     uint32_t sides, float *out, size_t out_len, float pair[2], uint32_t *pair_tick,
                                     uint64_t answer[LAMPTHISTLE_ANSWER_CELLS]);
@@ -339,12 +351,12 @@ void lampthistle_play_stream_floats(const uint8_t *stream, size_t stream_len, co
 /* Plays the ticks of a stream from tick `from` on, counted from 0: the largest number of whole ticks, beginning with that one, whose
    frames fit into `out`; counts them. Their frames are those that lampthistle_play_stream has for these ticks: the ticks before `from`
    move voices and remainder, but are not written. The first frame stands at out[0], and the rest of `out` stays. Any `from` is
-   accepted; where the stream has no such tick nothing is played. Refusals 1 to 9, 21 to 23. */
+   accepted; where the stream has no such tick nothing is played. Refusals 1 to 9, 21, 22, 28, 23. */
 void lampthistle_play_stream_from(const uint8_t *stream, size_t stream_len, const uint8_t *file, size_t file_len,
                                   uint32_t from, int16_t *out, size_t out_len, uint64_t answer[LAMPTHISTLE_ANSWER_CELLS]);
 
 /* Plays as lampthistle_play_stream_from does, but floats for 1 or 2 `sides`, with `pair` and `pair_tick` as in lampthistle_play_floats:
-   tick `from` is the call's tick 0. Refusals 1 to 9, 24, 21 to 23, in this order. */
+   tick `from` is the call's tick 0. Refusals 1 to 9, 24, 21, 22, 28, 23, in this order. */
 void lampthistle_play_stream_floats_from(const uint8_t *stream, size_t stream_len, const uint8_t *file, size_t file_len,
                                          uint32_t from, uint32_t sides, float *out, size_t out_len, float pair[2],
                                          uint32_t *pair_tick, uint64_t answer[LAMPTHISTLE_ANSWER_CELLS]);

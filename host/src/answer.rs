@@ -92,7 +92,7 @@ fn meaning(number: u64) -> &'static str {
     match number {
         0 => "accepted",
         refusal::SHORT_FILE => "the file is shorter than 1,084 bytes",
-        refusal::TAG => "the tag at byte 1080 is not M.K.",
+        refusal::TAG => "the tag at byte 1080 is not M.K., 4CHN, 6CHN or 8CHN",
         refusal::SONG_LENGTH => "the song length is 0 or above 128",
         refusal::TABLE_ENTRY => "a table entry is above 63",
         refusal::VOLUME => "a sample's volume is above 64",
@@ -109,10 +109,13 @@ fn meaning(number: u64) -> &'static str {
         refusal::STREAM_LENGTH => {
             "the stream is shorter than 9 bytes, or its length is not 4 plus its first number"
         }
-        refusal::STREAM_VERSION => "the stream's version is neither 1 nor 2",
+        refusal::STREAM_VERSION => "the stream's version is not 1, 2 or 3",
+        refusal::CHANNEL_COUNT => {
+            "the stream's channel count is not the module's, or version 3 is shorter than 10 bytes"
+        }
         refusal::RECORD => "a record of the stream is bad, or bytes are left over",
         refusal::SIDES => "the sides asked for are neither 1 nor 2",
-        refusal::CHANNEL => "the channel is not 1 to 4",
+        refusal::CHANNEL => "the module has no channel of this number",
         refusal::TOUCHES => "a touch list is longer than 64",
         refusal::ANSWERS => "the answer list is shorter than the longest touch list",
         refusal::LISTS => "the touch lists are not equally long",

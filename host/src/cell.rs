@@ -16,7 +16,7 @@ pub const REMAINDER: usize = 10;
 /// Ticks played, modulo 2^32.
 pub const CLOCK: usize = 11;
 pub const PAGE: usize = 12;
-/// The four channels' cells begin here.
+/// The channels' cells begin here.
 pub const FIRST_CHANNEL: usize = 13;
 
 /// Where a channel's cells begin; channels from 0.

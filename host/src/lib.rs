@@ -49,3 +49,10 @@ pub fn judge(file: &[u8]) -> Answer {
     unsafe { sys::lampthistle_judge(file.as_ptr(), file.len(), &mut answer) };
     Answer::from_cells(answer)
 }
+
+/// How many channels the file's tag names: 4, 6 or 8, or 0 where it has none of the tags that `judge` accepts. Nothing else of the file is
+/// looked at.
+pub fn channels(file: &[u8]) -> u32 {
+    // SAFETY: the pointer is good for its length.
+    unsafe { sys::lampthistle_channels(file.as_ptr(), file.len()) }
+}

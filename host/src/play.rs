@@ -4,8 +4,8 @@ use crate::{cell, sys, Answer};
 /// Frames a second; a frame is two numbers, left first.
 pub const RATE: u32 = 48_000;
 
-/// The channels of a module, which count from 1.
-pub const CHANNELS: usize = 4;
+/// The channels of a state, and the most that a module has; `channels` says how many one has.
+pub const CHANNELS: usize = 8;
 
 /// The most numbers that one tick takes: 3,750 frames at tempo 32.
 pub const TICK_NUMBERS: usize = 7_500;
@@ -26,7 +26,7 @@ pub fn tick_rest(tempo: u32, remainder: u32) -> u32 {
 }
 
 /// The cells of a state.
-pub const STATE_CELLS: usize = 89;
+pub const STATE_CELLS: usize = 165;
 
 /// Where a song is and how its voices sound, in plain numbers; `cell` names them.
 ///

@@ -72,7 +72,7 @@ impl From<Cause> for Answer {
     }
 }
 
-/// Why a channel, 1 to 4, is quiet in the next frame, or that it sounds. The next tick's work is not done first.
+/// Why a channel of the module, counted from 1, is quiet in the next frame, or that it sounds. The next tick's work is not done first.
 pub fn why_quiet(file: &[u8], state: &State, channel: u32) -> Result<Cause, Refusal> {
     let mut answer = [0; 3];
     // SAFETY: the pointer is good for its length, and nothing else reaches the answer during the call.

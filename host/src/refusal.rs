@@ -17,6 +17,7 @@ pub const AGE: u64 = 17;
 pub const POSITION: u64 = 18;
 pub const STREAM_LENGTH: u64 = 21;
 pub const STREAM_VERSION: u64 = 22;
+pub const CHANNEL_COUNT: u64 = 28;
 pub const RECORD: u64 = 23;
 pub const SIDES: u64 = 24;
 pub const CHANNEL: u64 = 25;

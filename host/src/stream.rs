@@ -4,7 +4,7 @@ use crate::{sys, Answer};
 /// The most ticks that one translation takes.
 pub const MOST_TICKS: u32 = 65_535;
 
-/// Writes the stream, of version 2, of the module's first `ticks` ticks into `room` and counts its bytes. Room past them stays. Where the
+/// Writes the stream, of version 3, of the module's first `ticks` ticks into `room` and counts its bytes. Room past them stays. Where the
 /// room is too short, the place is the length needed: an empty room asks for it.
 pub fn translate(file: &[u8], ticks: u32, room: &mut [u8]) -> Answer {
     let mut answer = [0; 3];
@@ -22,8 +22,8 @@ pub fn translate(file: &[u8], ticks: u32, room: &mut [u8]) -> Answer {
     Answer::from_cells(answer)
 }
 
-/// Plays the largest number of the ticks of a stream of version 1 or 2 whose frames fit into `out`, with the samples of the module in
-/// `file`, and counts them. The rest of `out` stays. It begins at the stream's first tick, with stopped voices and remainder 0.
+/// Plays the largest number of the ticks of a stream whose frames fit into `out`, with the samples of the module in `file`, and counts
+/// them. The rest of `out` stays. It begins at the stream's first tick, with stopped voices and remainder 0.
 pub fn play_stream(stream: &[u8], file: &[u8], out: &mut [i16]) -> Answer {
     let mut answer = [0; 3];
     // SAFETY: the pointers are good for their lengths, and the exclusive borrow keeps `out` apart from the others.

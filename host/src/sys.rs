@@ -8,6 +8,7 @@ type Pair = [f32; 2];
 extern "C" {
     pub fn lampthistle_version() -> u32;
     pub fn lampthistle_judge(file: *const u8, file_len: usize, answer: *mut Answer);
+    pub fn lampthistle_channels(file: *const u8, file_len: usize) -> u32;
     pub fn lampthistle_fresh(state: *mut State);
     pub fn lampthistle_play(
         file: *const u8,

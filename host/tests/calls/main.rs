@@ -1,4 +1,6 @@
 //! The safe wrappers, on modules small enough to know every answer.
+mod channels;
+
 use lampthistle::{
     cell, change_page, fresh, judge, play, play_floats, play_stream, play_stream_floats,
     play_stream_floats_from, play_stream_from, tick_floats, tick_frames, tick_numbers, tick_rest,
@@ -7,19 +9,29 @@ use lampthistle::{
 
 /// One empty pattern and no samples: 2,108 bytes.
 fn empty() -> Vec<u8> {
-    let mut file = vec![0; 2_108];
+    empty_of(b"M.K.", 4)
+}
+
+/// The same with a tag, and a pattern of so many channels.
+fn empty_of(tag: &[u8; 4], channels: usize) -> Vec<u8> {
+    let mut file = vec![0; 1_084 + 256 * channels];
     file[950] = 1;
-    file[1080..1084].copy_from_slice(b"M.K.");
+    file[1080..1084].copy_from_slice(tag);
     file
 }
 
 /// The empty module with sample 1, looped and loud, and its note on channel 1.
 fn one_note() -> Vec<u8> {
     let mut file = empty();
-    (file[43], file[45], file[49]) = (4, 64, 4);
-    file[1084..1088].copy_from_slice(&[1, 0xAC, 0x10, 0]);
-    file.extend_from_slice(&[100; 8]);
+    add_note(&mut file, 0);
     file
+}
+
+/// Adds sample 1, looped and loud, to a module without samples, with its note on a channel, from 0.
+fn add_note(file: &mut Vec<u8>, channel: usize) {
+    (file[43], file[45], file[49]) = (4, 64, 4);
+    file[1084 + 4 * channel..][..4].copy_from_slice(&[1, 0xAC, 0x10, 0]);
+    file.extend_from_slice(&[100; 8]);
 }
 
 fn accepted(count: u64) -> Answer {
@@ -118,11 +130,17 @@ fn a_burst_is_refused_by_its_lists() {
     assert_eq!(answer, refused(14, 0));
 }
 
+/// A stream of four channels by an older version.
+fn older(stream: &[u8], version: u8) -> Vec<u8> {
+    let follow = stream.len() as u32 - 5;
+    [&follow.to_be_bytes(), &[version][..], &stream[6..]].concat()
+}
+
 #[test]
 fn the_two_whole_streams_are_given() {
-    let quiet = [0, 0, 0, 7, 2, 0, 0, 0, 1, 0, 0x7D];
+    let quiet = [0, 0, 0, 8, 3, 4, 0, 0, 0, 1, 0, 0x7D];
     let note = [
-        0, 0, 0, 0x0D, 2, 0, 0, 0, 1, 1, 0x7D, 1, 0x40, 1, 0xAC, 1, 0,
+        0, 0, 0, 0x0E, 3, 4, 0, 0, 0, 1, 1, 0x7D, 1, 0x40, 1, 0xAC, 1, 0,
     ];
     for (file, stream) in [(empty(), &quiet[..]), (one_note(), &note)] {
         let bytes = stream.len() as u64;
@@ -133,10 +151,9 @@ fn the_two_whole_streams_are_given() {
         assert!(room[stream.len()..].iter().all(|&byte| byte == 7));
         let mut player = [8; 1_920];
         assert_eq!(play(&file, &mut fresh(), 1, &mut player), accepted(1));
-        // The same ticks by version 1, and by 2, as it was translated.
-        for version in [1, 2] {
-            let (mut stream, mut board) = (stream.to_vec(), [9; 1_920]);
-            stream[4] = version;
+        // The same ticks by versions 1 and 2, which have no channel count, and as they were translated.
+        for stream in [older(stream, 1), older(stream, 2), stream.to_vec()] {
+            let mut board = [9; 1_920];
             assert_eq!(play_stream(&stream, &file, &mut board), accepted(1));
             assert_eq!(board, player);
         }
@@ -182,8 +199,8 @@ fn floats_are_the_numbers_divided() {
         assert!(out[floats..].iter().all(|&float| float == 9.0));
         assert_eq!(bits(&last), [(12_800.0_f32 / 32_768.0).to_bits(), 0, 0]);
         let mut board = [9.0; 2_881];
-        let mut stream = [0; 17];
-        assert_eq!(translate(&file, 1, &mut stream), accepted(17));
+        let mut stream = [0; 18];
+        assert_eq!(translate(&file, 1, &mut stream), accepted(18));
         let mut its = held();
         let answer = play_stream_floats(&stream, &file, sides, &mut board, &mut its);
         assert_eq!((answer, bits(&its)), (accepted(1), bits(&last)));
@@ -466,17 +483,26 @@ fn a_version_has_its_own_lengths() {
     stream[4] = 1;
     assert_eq!(count(&stream, 1_410), accepted(3));
     assert_eq!(count(&stream, 1_409), accepted(2));
-    for version in [0, 3, 255] {
+    for version in [0, 4, 255] {
         stream[4] = version;
         assert_eq!(count(&stream, 1_411), refused(22, 4));
     }
+    let stream = [0, 0, 0, 12, 3, 4, 0, 0, 0, 3, 0, 255, 0, 255, 0, 255];
+    assert_eq!(count(&stream, 1_411), accepted(3));
+    assert_eq!(count(&stream, 1_410), accepted(2));
 }
 
 #[test]
 fn a_cut_header_is_refused_by_its_length() {
-    for version in [1, 2] {
+    for version in [1, 2, 3] {
         let whole = [0, 0, 0, 5, version, 0, 0, 0, 0];
-        assert_eq!(play_stream(&whole, &empty(), &mut []), accepted(0));
+        // Version 3 has a byte more.
+        let answer = if version == 3 {
+            refused(28, 4)
+        } else {
+            accepted(0)
+        };
+        assert_eq!(play_stream(&whole, &empty(), &mut []), answer);
         for length in 0..whole.len() {
             let mut cut = whole[..length].to_vec();
             let place = length as u64;
