@@ -33,8 +33,9 @@ fn objects() -> String {
     const EFFECTS: &str = "crates/play_cases/data/effects";
     const SCRIPT: &str = "examples/trial.txt";
     let (record, sound) = (own("objects.record"), own("objects.raw"));
-    let asked = own("objects.txt");
+    let (asked, uncounted) = (own("objects.txt"), own("objects.stream"));
     std::fs::write(&asked, "why\n").unwrap();
+    std::fs::write(&uncounted, [0, 0, 0, 5, 3, 4, 0, 0, 0]).unwrap();
     printed(&["replay", FLOW, SCRIPT, "--record", &record]);
     std::fs::write(&sound, [1; 4_000]).unwrap();
     let mut objects = String::new();
@@ -46,6 +47,7 @@ fn objects() -> String {
         &["judge", "--notes", "--json", EFFECTS, "no/such"][..],
         &["info", "--json", EFFECTS],
         &["trace", "--json", FLOW],
+        &["trace", "--json", &uncounted],
         &["why", "--json", FLOW],
         &["replay", "--json", FLOW, SCRIPT],
         &["replay", "--json", FLOW, &asked],
@@ -70,6 +72,7 @@ fn formats_has_every_key_of_an_object() {
         "side",
         "answers",
         "causes",
+        "version",
     ] {
         assert!(keys.contains(known), "no object has {known}");
     }

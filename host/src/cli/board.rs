@@ -93,18 +93,23 @@ mod tests {
     fn stored(name: &str, ticks: u32) -> (Vec<u8>, Vec<u8>) {
         let root = Path::new(env!("CARGO_MANIFEST_DIR")).join("..");
         let file = std::fs::read(root.join("crates/play_cases/data").join(name)).unwrap();
-        let mut stream = vec![0; 9 + 26 * ticks as usize];
+        let mut stream = vec![0; 10 + 50 * ticks as usize];
         let bytes = lampthistle::translate(&file, ticks, &mut stream).count;
         stream.truncate(bytes as usize);
         (file, stream)
     }
 
+    /// A stream of four channels by an older version, which has no channel count.
+    fn older(stream: &[u8], version: u8) -> Vec<u8> {
+        let follow = stream.len() as u32 - 5;
+        [&follow.to_be_bytes(), &[version][..], &stream[6..]].concat()
+    }
+
     #[test]
     fn pieces_of_any_size_are_the_whole() {
         for name in ["effects", "flow", "edges"] {
-            let (file, mut stream) = stored(name, 400);
-            for version in [1, 2] {
-                stream[4] = version;
+            let (file, stream) = stored(name, 400);
+            for stream in [older(&stream, 1), older(&stream, 2), stream] {
                 whole_in_pieces::<i16>(&file, &stream, 2);
                 whole_in_pieces::<f32>(&file, &stream, 1);
                 whole_in_pieces::<f32>(&file, &stream, 2);

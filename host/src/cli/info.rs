@@ -2,7 +2,7 @@
 use super::course::{course, Course, MOST_TICKS};
 use super::input::{self, Source};
 use super::json::{self, Fields, Value};
-use super::layout::{headers, pattern_count, played, readable, Header, TITLE};
+use super::layout::{channels, headers, pattern_count, played, readable, Header, TITLE};
 use super::notes::notes;
 use super::output::{counted, say, seconds};
 use super::report::{self, plain_accepted};
@@ -17,11 +17,11 @@ pub const COMMAND: Command = Command {
     help: "\
 lampthistle info [--plain | --json] FILE
 
-Shows a module's title, song length, pattern count and table; how long it plays until it comes back to a place where it has been; its
-samples with lengths, volumes and loops, in bytes; and what it asks for that does nothing here, as judge --notes does.
---plain prints NUMBER PLACE COUNT of the judging; then song length and pattern count; the played table entries; ticks and frames until it
-comes back, and that position and row, or - - - - if it does not; a line a sample that has bytes: its number, length, volume, loop start
-and loop length, 0 0 without a loop; and a line a note: note EFFECT CELLS PATTERN ROW CHANNEL.
+Shows a module's title, channel count, song length, pattern count and table; how long it plays until it comes back to a place where it
+has been; its samples with lengths, volumes and loops, in bytes; and what it asks for that does nothing here, as judge --notes does.
+--plain prints NUMBER PLACE COUNT of the judging; then song length, pattern count and channel count; the played table entries; ticks and
+frames until it comes back, and that position and row, or - - - - if it does not; a line a sample that has bytes: its number, length,
+volume, loop start and loop length, 0 0 without a loop; and a line a note: note EFFECT CELLS PATTERN ROW CHANNEL.
 --json prints all of it as one object.
 
 Example:
@@ -61,6 +61,7 @@ fn table(file: &[u8]) -> String {
 fn page(file: &[u8], course: Option<&Course>) -> String {
     let mut lines = vec![
         format!("title        {}", readable(&file[TITLE])),
+        format!("channels     {}", channels(file)),
         format!("song length  {}", played(file).len()),
         format!("patterns     {}", pattern_count(file)),
         format!("table        {}", table(file)),
@@ -97,7 +98,7 @@ fn lasting(course: Option<&Course>) -> String {
 fn bare(file: &[u8], course: Option<&Course>) -> String {
     let mut text = plain_accepted(0);
     let (entries, patterns) = (played(file).len(), pattern_count(file));
-    text += &format!("{entries} {patterns}\n{}\n", table(file));
+    text += &format!("{entries} {patterns} {}\n{}\n", channels(file), table(file));
     text += &match course {
         Some(c) => format!("{} {} {} {}\n", c.ticks, c.frames, c.position, c.row),
         None => "- - - -\n".into(),
@@ -124,6 +125,7 @@ fn fields(source: &Source, course: Option<&Course>) -> Fields {
     });
     fields.extend([
         ("title", readable(&file[TITLE]).into()),
+        ("channels", channels(file).into()),
         ("song_length", played(file).len().into()),
         ("patterns", pattern_count(file).into()),
         ("table", Value::list(played(file).iter().copied())),

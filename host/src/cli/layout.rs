@@ -1,4 +1,4 @@
-//! Where the parts of a module lie (docs/FORMATS.md). Whether a file is a module at all, the library says.
+//! Where the parts of a module lie (docs/FORMATS.md). Whether a file is a module at all, and how many channels it has, the library says.
 use std::ops::Range;
 
 pub const TITLE: Range<usize> = 0..20;
@@ -8,8 +8,7 @@ pub const SONG_LENGTH: usize = 950;
 pub const TABLE: Range<usize> = 952..1080;
 pub const TAG: Range<usize> = 1080..1084;
 const PATTERNS: usize = 1084;
-const PATTERN_BYTES: usize = 1024;
-const ROW_BYTES: usize = 16;
+const ROWS: usize = 64;
 const CELL_BYTES: usize = 4;
 
 /// A header's parts, from its first byte on.
@@ -65,6 +64,20 @@ pub fn pattern_count(file: &[u8]) -> usize {
     last.map_or(0, |&last| usize::from(last) + 1)
 }
 
+/// How many channels a module has.
+pub fn channels(file: &[u8]) -> usize {
+    lampthistle::channels(file) as usize
+}
+
+/// The bytes of a row of so many channels, and of a pattern.
+fn row_bytes(channels: usize) -> usize {
+    CELL_BYTES * channels
+}
+
+fn pattern_bytes(channels: usize) -> usize {
+    ROWS * row_bytes(channels)
+}
+
 /// Where a cell is; channels from 1, the others from 0.
 #[derive(Clone, Copy)]
 pub struct Spot {
@@ -81,13 +94,13 @@ pub struct Cell {
     pub effect: u8,
 }
 
-/// The cell at a byte of the patterns.
-pub fn spot(place: usize) -> Spot {
-    let at = place - PATTERNS;
+/// The cell at a byte of the patterns of so many channels.
+pub fn spot(channels: usize, place: usize) -> Spot {
+    let (at, row) = (place - PATTERNS, row_bytes(channels));
     Spot {
-        pattern: at / PATTERN_BYTES,
-        row: at % PATTERN_BYTES / ROW_BYTES,
-        channel: at % ROW_BYTES / CELL_BYTES + 1,
+        pattern: at / row / ROWS,
+        row: at / row % ROWS,
+        channel: at % row / CELL_BYTES + 1,
     }
 }
 
@@ -114,25 +127,31 @@ pub fn played_cells(file: &[u8]) -> impl Iterator<Item = (Spot, Cell)> + '_ {
             patterns.push(pattern.into());
         }
     }
-    let begin = |pattern| PATTERNS + PATTERN_BYTES * pattern;
+    let channels = channels(file);
+    let begin = move |pattern| PATTERNS + pattern_bytes(channels) * pattern;
     let places = patterns
         .into_iter()
         .flat_map(move |pattern| (begin(pattern)..begin(pattern + 1)).step_by(CELL_BYTES));
-    places.map(|place| (spot(place), cell(file, place)))
+    places.map(move |place| (spot(channels, place), cell(file, place)))
 }
 
-/// A module without notes and samples, where a stream is judged alone.
-pub fn empty() -> Vec<u8> {
-    let mut file = vec![0; PATTERNS + PATTERN_BYTES];
+/// A module without notes and samples, where a stream is judged alone: of the stream's channels, or of four where no module has as many.
+pub fn empty(channels: usize) -> Vec<u8> {
+    let (channels, tag) = match channels {
+        6 => (6, b"6CHN"),
+        8 => (8, b"8CHN"),
+        _ => (4, b"4CHN"),
+    };
+    let mut file = vec![0; PATTERNS + pattern_bytes(channels)];
     file[SONG_LENGTH] = 1;
-    file[TAG].copy_from_slice(b"M.K.");
+    file[TAG].copy_from_slice(tag);
     file
 }
 
 /// The module without its samples' bytes: it plays the same ticks (the sequencer's `same-ticks`), with every voice silent, so that a
 /// tick takes little time.
 pub fn silenced(file: &[u8]) -> Vec<u8> {
-    let end = PATTERNS + PATTERN_BYTES * pattern_count(file);
+    let end = PATTERNS + pattern_bytes(channels(file)) * pattern_count(file);
     let mut silent = file[..end].to_vec();
     for header in silent[HEADERS].chunks_exact_mut(HEADER_BYTES) {
         header[LENGTH..LENGTH + 2].fill(0);

@@ -58,10 +58,10 @@ const COMMANDS: [&Command; 9] = [
 ];
 
 const HELP: &str = "\
-lampthistle: plays four-channel ProTracker modules (M.K.) with the proved library
+lampthistle: plays ProTracker modules of four, six or eight channels (M.K., 4CHN, 6CHN, 8CHN) with the proved library
 
   lampthistle judge FILE..                         whether each file is a module that can be played
-  lampthistle info FILE                            title, song, patterns and samples, and how long it plays
+  lampthistle info FILE                            title, channels, patterns, samples, and how long it plays
   lampthistle play FILE --out OUT                  renders the module to OUT (.wav, .raw or -)
   lampthistle translate FILE --ticks N --out OUT   writes the tick stream of the first N ticks
   lampthistle board STREAM FILE --out OUT          plays a tick stream with the module's samples

@@ -1,9 +1,10 @@
 //! What stands at a refusal's place, in the words of somebody who looks for it in a tracker.
 use super::json::Fields;
 use super::layout::{self, Spot, HEADERS, HEADER_BYTES, SONG_LENGTH, TABLE, TAG};
+use super::records;
 use lampthistle::{refusal, Answer};
 
-/// The place of a module's refusal, and the value found there; empty where the file's length is the place.
+/// The place of a refusal of a module or a stream, and the value found there; empty where there is nothing to add.
 pub fn found(file: &[u8], answer: &Answer) -> Fields {
     let place = answer.place as usize;
     match answer.number {
@@ -20,6 +21,11 @@ pub fn found(file: &[u8], answer: &Answer) -> Fields {
         refusal::LOOP => looped(file, sample_at(place)),
         refusal::SAMPLE_NUMBER => cell(file, place, true),
         refusal::PERIOD => cell(file, place, false),
+        refusal::CHANNEL_COUNT => vec![
+            ("version", records::version(file).into()),
+            ("channels", records::channels(file).into()),
+        ],
+        refusal::CHANNEL => vec![("channels", layout::channels(file).into())],
         _ => Vec::new(),
     }
 }
@@ -44,7 +50,7 @@ fn looped(file: &[u8], sample: usize) -> Fields {
 /// A cell's pattern, row and channel, and its sample number or its period.
 fn cell(file: &[u8], place: usize, sample: bool) -> Fields {
     let cell = layout::cell(file, place);
-    let mut fields = spot(&layout::spot(place));
+    let mut fields = spot(&layout::spot(layout::channels(file), place));
     fields.push(if sample {
         ("sample", cell.sample.into())
     } else {

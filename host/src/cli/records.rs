@@ -1,13 +1,15 @@
 //! The records of a tick stream that the library wrote or accepted, read by offset.
 use lampthistle::{tick_frames, tick_rest, CHANNELS};
 
-/// Where the version and the count of ticks are, and the bytes before the first record and of one channel's command.
+/// Where the version is, and in a version that has one the channel count; the bytes of the count of ticks and of one channel's command.
 const VERSION: usize = 4;
-const TICKS: std::ops::Range<usize> = 5..9;
-const START: usize = 9;
+const CHANNEL_COUNT: usize = 5;
+const TICKS_BYTES: usize = 4;
 const COMMAND_BYTES: usize = 6;
-/// The version whose ticks leave no remainder.
+/// The version whose ticks leave no remainder, and the first that has a channel count; the channels of those before it.
 const DRIFTING: u8 = 1;
+const COUNTED: u8 = 3;
+const UNCOUNTED_CHANNELS: u8 = 4;
 
 /// One tick: its tempo, and for each channel whose bit is set its command.
 pub struct Record {
@@ -37,24 +39,37 @@ pub struct Records<'a> {
     rest: &'a [u8],
 }
 
+/// Where the count of ticks is: after the channel count, if the version has one.
+fn ticks_place(stream: &[u8]) -> usize {
+    CHANNEL_COUNT + usize::from(version(stream) >= COUNTED)
+}
+
 /// All records of a stream.
 pub fn records(stream: &[u8]) -> Records<'_> {
+    let start = ticks_place(stream) + TICKS_BYTES;
     Records {
-        rest: stream.get(START..).unwrap_or(&[]),
+        rest: stream.get(start..).unwrap_or(&[]),
     }
 }
 
 /// How many ticks an accepted stream has.
 pub fn ticks(stream: &[u8]) -> u64 {
-    let bytes = stream.get(TICKS).unwrap_or(&[]);
-    bytes
-        .iter()
-        .fold(0, |high, &low| 256 * high + u64::from(low))
+    let bytes = stream.iter().skip(ticks_place(stream)).take(TICKS_BYTES);
+    bytes.fold(0, |high, &low| 256 * high + u64::from(low))
 }
 
-/// An accepted stream's version.
+/// A stream's version.
 pub fn version(stream: &[u8]) -> u8 {
     stream.get(VERSION).copied().unwrap_or(0)
+}
+
+/// How many channels a stream is for.
+pub fn channels(stream: &[u8]) -> usize {
+    let count = match version(stream) {
+        COUNTED.. => stream.get(CHANNEL_COUNT).copied().unwrap_or(0),
+        _ => UNCOUNTED_CHANNELS,
+    };
+    count.into()
 }
 
 /// The frames of all ticks of a stream.
@@ -65,7 +80,7 @@ pub fn frames(stream: &[u8]) -> u64 {
         .sum()
 }
 
-/// How long the ticks of a stream are, one after the other: by version 1 each by its tempo alone, by version 2 with the remainder of
+/// How long the ticks of a stream are, one after the other: by version 1 each by its tempo alone, by later ones with the remainder of
 /// those before it.
 pub struct Lengths {
     version: u8,

@@ -77,6 +77,11 @@ impl Song<'_> {
         lampthistle::change_page(&self.file, &mut self.state)
     }
 
+    /// How many channels the module has.
+    pub fn channels(&self) -> u32 {
+        lampthistle::channels(&self.file)
+    }
+
     pub fn why_quiet(&self, channel: u32) -> Result<Cause, Refusal> {
         lampthistle::why_quiet(&self.file, &self.state, channel)
     }

@@ -19,7 +19,7 @@ pub const TRANSLATE: Command = Command {
     help: "\
 lampthistle translate FILE (--once | --ticks N) --out OUT [--plain]
 
-Writes the tick stream, of version 2, of the module's first N ticks, 65,535 at most, to OUT; - is standard output. --once takes the
+Writes the tick stream, of version 3, of the module's first N ticks, 65,535 at most, to OUT; - is standard output. --once takes the
 ticks until the song comes back to a place where it has been, as info tells.
 --plain prints NUMBER PLACE COUNT, the count in bytes.
 
@@ -38,7 +38,8 @@ pub const BOARD: Command = Command {
     help: "\
 lampthistle board STREAM FILE [--float [--mono]] --out OUT [--plain]
 
-Plays a tick stream of version 1 or 2 as the sound board does, with the samples of the module FILE. OUT as in play: .wav, .raw or -.
+Plays a tick stream of version 1, 2 or 3 as the sound board does, with the samples of the module FILE, which has as many channels as the
+stream is for: versions 1 and 2 are for four. OUT as in play: .wav, .raw or -.
 --float writes 32-bit floats, and with --mono one number a frame, as in play.
 --plain prints NUMBER PLACE COUNT, the count in ticks.
 

@@ -4,7 +4,7 @@ use super::json::{self, Fields, Value};
 use super::layout;
 use super::length::ticks_asked;
 use super::output::say;
-use super::records::{records, version, Command as Registers, Lengths, Record};
+use super::records::{channels, records, version, Command as Registers, Lengths, Record};
 use super::report::plain_accepted;
 use super::song::{Song, TICK_FRAMES};
 use super::stop::Stop;
@@ -12,7 +12,7 @@ use super::stream::translated;
 use super::waves;
 use super::words::Words;
 use super::Command;
-use lampthistle::{State, CHANNELS};
+use lampthistle::State;
 
 pub const COMMAND: Command = Command {
     name: "trace",
@@ -22,10 +22,10 @@ pub const COMMAND: Command = Command {
 lampthistle trace FILE [--once | --ticks N] [--waves] [--plain | --json]
 
 Shows the first N ticks of a module or of a tick stream, 100 without --ticks, a line a tick: its number, the module's position and row,
-the tempo, the remainder that the tick leaves, its frames, and each channel's sample, sounded volume and sounded period. A * stands before
-a channel that changes or starts; @ and the byte offset after one that starts. --once shows a module's ticks until it comes back to a
-place where it has been, as info tells. --waves shows each channel's vibrato, v, and tremolo, t, too, as the tick leaves them: x and y as
-an effect has them, the place, 0 to 63, and the form.
+the tempo, the remainder that the tick leaves, its frames, and the sample, sounded volume and sounded period of each channel that the file
+has. A * stands before a channel that changes or starts; @ and the byte offset after one that starts. --once shows a module's ticks until
+it comes back to a place where it has been, as info tells. --waves shows each channel's vibrato, v, and tremolo, t, too, as the tick
+leaves them: x and y as an effect has them, the place, 0 to 63, and the form.
 --plain prints NUMBER PLACE COUNT, the count in bytes of the stream, then a line a tick: tick, position, row, tempo, remainder and
 frames, and for each channel six numbers: 1 if it is in the record, sample, volume, period, start, offset / 256. --waves adds x, y, place
 and form of its vibrato and of its tremolo; the forms are 0 sine, 1 ramp, 2 square. A stream has - - for position and row. --json prints
@@ -55,7 +55,8 @@ struct Tick<'a> {
     remainder: u32,
     frames: usize,
     record: &'a Record,
-    registers: &'a [Registers; CHANNELS],
+    /// Of each channel that there is.
+    registers: &'a [Registers],
 }
 
 fn run(words: &Words) -> Result<bool, Stop> {
@@ -74,9 +75,10 @@ fn run(words: &Words) -> Result<bool, Stop> {
         let song = Song::silent(&source.bytes);
         (translated(&source, ticks)?, Some(song), ticks)
     };
-    let mut text = heading(words, stream.len() as u64);
+    let channels = channels(&stream);
+    let mut text = heading(words, stream.len() as u64, channels);
     let mut lengths = Lengths::of(version(&stream));
-    let mut registers = [Registers::default(); CHANNELS];
+    let mut registers = vec![Registers::default(); channels];
     for (number, record) in records(&stream).take(ticks as usize).enumerate() {
         for (register, command) in registers.iter_mut().zip(&record.commands) {
             *register = command.unwrap_or(*register);
@@ -110,7 +112,8 @@ fn is_stream(source: &Source) -> Result<bool, Stop> {
     if lampthistle::judge(&source.bytes).is_accepted() {
         return Ok(false);
     }
-    let answer = lampthistle::play_stream(&source.bytes, &layout::empty(), &mut []);
+    let module = layout::empty(channels(&source.bytes));
+    let answer = lampthistle::play_stream(&source.bytes, &module, &mut []);
     if answer.number == NOT_BY_LENGTH && !source.name.ends_with(".stream") {
         return source.judge().map(|_| false);
     }
@@ -150,14 +153,14 @@ fn line(words: &Words, source: &Source, tick: &Tick) -> String {
         waves::marked
     };
     let waving = tick.state.filter(|_| words.has("--waves"));
-    for channel in 0..CHANNELS {
+    for channel in 0..tick.registers.len() {
         line += &show(tick, channel);
         line += &waving.map_or(String::new(), |state| show_waves(&state, channel));
     }
     line.trim_end().to_string() + "\n"
 }
 
-fn heading(words: &Words, bytes: u64) -> String {
+fn heading(words: &Words, bytes: u64, channels: usize) -> String {
     if words.json {
         return String::new();
     }
@@ -166,7 +169,7 @@ fn heading(words: &Words, bytes: u64) -> String {
     }
     let mut text = String::from(" tick  pos row tempo rem frames");
     let width = if words.has("--waves") { 39 } else { 9 };
-    for channel in 1..=CHANNELS {
+    for channel in 1..=channels {
         text += &format!("   channel {channel:<width$}");
     }
     text.trim_end().to_string() + "\n"
@@ -203,7 +206,7 @@ fn bare(tick: &Tick, channel: usize) -> String {
 }
 
 fn fields(source: &Source, tick: &Tick) -> Fields {
-    let channels = (0..CHANNELS).map(|channel| -> Fields {
+    let channels = (0..tick.registers.len()).map(|channel| -> Fields {
         let (command, registers) = (tick.record.commands[channel], tick.registers[channel]);
         let start = command.filter(|command| command.start);
         let mut fields: Fields = vec![

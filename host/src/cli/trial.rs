@@ -5,7 +5,7 @@ use super::script::{Call, Results, Touch};
 use super::song::{Song, TICK_FRAMES};
 use super::sound::Sound;
 use super::stop::Stop;
-use lampthistle::{Answer, Cause, Refusal, State, CHANNELS};
+use lampthistle::{Answer, Cause, Refusal, State};
 
 pub struct Trial<'a> {
     song: Song<'a>,
@@ -112,7 +112,7 @@ impl<'a> Trial<'a> {
 
     /// Asks for each channel's cause, and counts the channels.
     fn why(&self, each: &mut Vec<u64>) -> Answer {
-        let causes = (1..=CHANNELS as u32).map(|channel| self.song.why_quiet(channel));
+        let causes = (1..=self.song.channels()).map(|channel| self.song.why_quiet(channel));
         match causes.collect::<Result<Vec<Cause>, Refusal>>() {
             Ok(causes) => {
                 each.extend(causes.iter().map(|cause| cause.number()));

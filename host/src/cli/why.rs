@@ -8,7 +8,7 @@ use super::song::{Song, TICK_FRAMES};
 use super::stop::Stop;
 use super::words::Words;
 use super::Command;
-use lampthistle::{Answer, Cause, CHANNELS};
+use lampthistle::{Answer, Cause};
 
 pub const COMMAND: Command = Command {
     name: "why",
@@ -18,7 +18,8 @@ pub const COMMAND: Command = Command {
 lampthistle why FILE [--ticks N] [--channel C] [--plain | --json]
 
 Plays the first N ticks of the module, one without --ticks, without writing their sound, and says why each channel, or channel C alone, is
-quiet in the frame after them, or that it sounds. The first of these that holds is the cause:
+quiet in the frame after them, or that it sounds. Channels count from 1; info shows how many there are. The first of these that holds
+is the cause:
   1  it has no sample                       nothing was started, or a note before any sample
   2  its period is 0                        which no note has
   3  its sample has ended                   or was started past its end
@@ -43,13 +44,14 @@ const TICKS: u32 = 1;
 
 fn run(words: &Words) -> Result<bool, Stop> {
     let ticks = words.number("--ticks")?.unwrap_or(TICKS);
-    let channels = match words.number("--channel")? {
-        Some(channel) => channel..=channel,
-        None => 1..=CHANNELS as u32,
-    };
+    let asked = words.number("--channel")?;
     let [source] = input::read_all(words.files(["FILE"])?)?;
     let _ = source.judge()?;
     let mut song = Song::new(&source.bytes);
+    let channels = match asked {
+        Some(channel) => channel..=channel,
+        None => 1..=song.channels(),
+    };
     // A channel that there is not is found before anything is played.
     ask(&song, &source, *channels.start())?;
     let mut progress = Progress::new();

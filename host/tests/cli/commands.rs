@@ -11,7 +11,7 @@ fn judge_answers_a_line_a_file() {
     let (good, bad) = (stored("flow"), bad.to_str().unwrap());
     let (status, out, err) = told(&["judge", &good, bad]);
     let lines = format!(
-        "{good}: accepted\n{bad}: refused 2 at 1080: the tag at byte 1080 is not M.K. (tag m.K.)\n"
+        "{good}: accepted\n{bad}: refused 2 at 1080: the tag at byte 1080 is not M.K., 4CHN, 6CHN or 8CHN (tag m.K.)\n"
     );
     assert_eq!((status, out, err), (1, lines, String::new()));
     let (status, out, _) = told(&["judge", "--plain", &good, "no/such", bad]);
@@ -24,7 +24,7 @@ fn judge_answers_a_line_a_file() {
 fn info_shows_what_a_module_holds() {
     let (status, out, _) = told(&["info", "--plain", &stored("edges")]);
     let lines =
-        "0 0 0\n1 1\n0\n192 90352 0 0\n1 12 64 4 6\n2 40 64 0 0\n3 4 64 0 4\n31 512 1 200 56\n";
+        "0 0 0\n1 1 4\n0\n192 90352 0 0\n1 12 64 4 6\n2 40 64 0 0\n3 4 64 0 4\n31 512 1 200 56\n";
     assert_eq!((status, out.as_str()), (0, lines));
     let (status, out, _) = told(&["info", &stored("flow")]);
     assert_eq!(status, 0);

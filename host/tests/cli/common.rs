@@ -65,13 +65,29 @@ pub fn stored(name: &str) -> String {
 
 /// A new module of one pattern and no samples, with these first cells, as a file of this name in the tests' own folder.
 pub fn quiet(name: &str, cells: &[u8]) -> String {
-    let mut file = vec![0; 2_108];
+    tagged(name, b"M.K.", cells)
+}
+
+/// The same with a tag; a pattern has 256 bytes for each channel that it names.
+pub fn tagged(name: &str, tag: &[u8; 4], cells: &[u8]) -> String {
+    let channels = match tag {
+        b"6CHN" => 6,
+        b"8CHN" => 8,
+        _ => 4,
+    };
+    let mut file = vec![0; 1_084 + 256 * channels];
     file[950] = 1;
-    file[1080..1084].copy_from_slice(b"M.K.");
+    file[1080..1084].copy_from_slice(tag);
     file[1084..][..cells.len()].copy_from_slice(cells);
     let path = own(name);
     std::fs::write(&path, file).expect("it can be written");
     path.to_str().expect("a plain path").into()
+}
+
+/// A stream of four channels by an older version, which has no channel count.
+pub fn older(stream: &[u8], version: u8) -> Vec<u8> {
+    let follow = stream.len() as u32 - 5;
+    [&follow.to_be_bytes(), &[version][..], &stream[6..]].concat()
 }
 
 /// The frames of the first ticks of the stored modules, which are at tempo 255.

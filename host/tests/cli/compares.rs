@@ -1,5 +1,5 @@
 //! The player against a given stream and against recordings.
-use crate::common::{frames, own, stored, told};
+use crate::common::{frames, older, own, stored, told};
 
 fn path(name: &str) -> String {
     own(name).to_str().unwrap().into()
@@ -30,26 +30,26 @@ fn a_stream_is_compared() {
     let line = format!("{module}: 20 ticks, 9411 frames: player and {stream} are equal\n");
     assert_eq!((status, out), (0, line));
     // The first command's volume.
-    change(stream, |bytes| bytes[12] -= 1);
+    change(stream, |bytes| bytes[13] -= 1);
     let (status, out, err) = told(&["compare", module, stream]);
     assert_eq!((status, out.as_str()), (1, ""));
     assert!(err.contains(": DIFFERENT: tick 0, frame "), "{err}");
     // The second tick's tempo: 472 frames in place of 471.
     change(stream, |bytes| {
-        bytes[12] += 1;
-        bytes[24] = 254;
+        bytes[13] += 1;
+        bytes[25] = 254;
     });
     let (_, _, err) = told(&["compare", module, stream]);
     let line = "tick 1, frame 471 (941 from the beginning), left: player none, ";
     assert!(err.contains(line), "{err}");
     assert_eq!(told(&["compare", module, stream, "--ticks", "1"]).0, 0);
-    change(stream, |bytes| bytes[4] = 3);
+    change(stream, |bytes| bytes[4] = 4);
     let (status, out, _) = told(&["compare", module, stream, "--plain"]);
     assert_eq!((status, out.as_str()), (1, "22 4 0\n"));
     // By version 1 the second tick is as long as the first.
     change(stream, |bytes| {
-        bytes[4] = 1;
-        bytes[24] = 255;
+        bytes[25] = 255;
+        *bytes = older(bytes, 1);
     });
     let (_, _, err) = told(&["compare", module, stream]);
     assert!(

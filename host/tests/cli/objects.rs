@@ -33,7 +33,8 @@ fn info_prints_one_object() {
     let (status, lines) = lines(&["info", &name]);
     let parts = [
         format!(r#"{{"file":"{name}","number":0,"place":0,"meaning":"accepted","title":"","#),
-        r#""song_length":1,"patterns":1,"table":[0],"ticks":384,"frames":368640,"#.into(),
+        r#""channels":4,"song_length":1,"patterns":1,"table":[0],"ticks":384,"frames":368640,"#
+            .into(),
         r#""comes_back_to":{"position":0,"row":0},"samples":[],"#.into(),
         r#""notes":[{"effect":"8","name":"panning","cells":1,"pattern":0,"row":0,"channel":1}]}"#
             .into(),
@@ -72,7 +73,7 @@ fn why_prints_an_object_a_channel() {
     assert_eq!(lines[3], start + r#""cause":1,"says":"it has no sample"}"#);
     let (status, lines) = self::lines(&["why", &name, "--channel", "5"]);
     let line = format!(
-        r#"{{"file":"{name}","number":25,"place":0,"meaning":"the channel is not 1 to 4"}}"#
+        r#"{{"file":"{name}","number":25,"place":0,"meaning":"the module has no channel of this number","channels":4}}"#
     );
     assert_eq!((status, lines), (1, vec![line]));
 }

@@ -49,7 +49,7 @@ fn once_plays_until_then() {
         "once.stream",
         "--plain",
     ];
-    assert_eq!(told(&words).1, "0 0 81\n");
+    assert_eq!(told(&words).1, "0 0 82\n");
     assert_eq!(
         told(&["compare", module, "--once", "--plain"]).1,
         "0 0 36\n"
@@ -121,7 +121,11 @@ fn notes_say_what_does_nothing() {
 
 /// A change to a good file, and what its refusal says.
 const PLACES: [(usize, &[u8], &str); 7] = [
-    (1080, b"8CHN", "2 at 1080: the tag at byte 1080 is not M.K. (tag 8CHN)"),
+    (
+        1080,
+        b"M!K!",
+        "2 at 1080: the tag at byte 1080 is not M.K., 4CHN, 6CHN or 8CHN (tag M!K!)",
+    ),
     (950, &[129], "3 at 950: the song length is 0 or above 128 (song length 129)"),
     (957, &[64], "4 at 957: a table entry is above 63 (entry 5, pattern 64)"),
     (105, &[65], "5 at 105: a sample's volume is above 64 (sample 3, volume 65)"),

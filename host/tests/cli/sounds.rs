@@ -42,7 +42,7 @@ fn a_pipe_is_written_as_it_is() {
     // Nobody can go back in a pipe: the lengths stay open.
     assert_eq!((&wav[4..8], &wav[40..44]), (&OPEN[..], &OPEN[..]));
     let words = ["translate", module, "--ticks", "2", "--out"];
-    assert_eq!(through_a_pipe(&words, &folder, "p.stream").len(), 31);
+    assert_eq!(through_a_pipe(&words, &folder, "p.stream").len(), 32);
 }
 
 #[test]
@@ -57,7 +57,7 @@ fn a_device_is_written_as_it_is() {
         .stdin(Stdio::null());
     let output = in_time(&mut script);
     assert_eq!(output.status.code(), Some(0));
-    let stream = [0, 0, 0, 7, 2, 0, 0, 0, 1, 0, 0x7D];
+    let stream = [0, 0, 0, 8, 3, 4, 0, 0, 0, 1, 0, 0x7D];
     let mut parts = output.stdout.windows(stream.len());
     assert!(parts.any(|part| part == stream), "{:?}", output.stdout);
 }

@@ -1,5 +1,5 @@
 //! What the commands for tick streams print and write.
-use crate::common::{own, said, stored, told};
+use crate::common::{older, own, said, stored, told};
 use std::os::unix::fs::symlink;
 use std::process::{Command, Stdio};
 
@@ -36,13 +36,13 @@ fn bad_streams_are_refused_and_nothing_is_written() {
     let module = stored("flow");
     let stream = translated(&module, "3", "bad.stream");
     let mut bytes = std::fs::read(&stream).unwrap();
-    bytes[4] = 3;
+    bytes[4] = 4;
     std::fs::write(&stream, bytes).unwrap();
     let out = own("bad_board.wav");
     let words = ["board", &stream, &module, "--out", out.to_str().unwrap()];
     let (status, text, _) = told(&words);
     assert_eq!(status, 1);
-    assert!(text.ends_with(": refused 22 at 4: the stream's version is neither 1 nor 2\n"));
+    assert!(text.ends_with(": refused 22 at 4: the stream's version is not 1, 2 or 3\n"));
     assert!(!out.exists());
 }
 
@@ -149,7 +149,7 @@ fn a_note_held_through_65535_ticks_is_compared_in_small_memory() {
 #[test]
 fn trace_marks_what_changes() {
     let (status, out, _) = told(&["trace", "--plain", "--ticks", "2", &stored("effects")]);
-    let lines = "0 0 31\n\
+    let lines = "0 0 32\n\
         0 0 0 255 150 470 1 1 64 428 1 0 1 2 32 285 1 0 0 0 0 0 0 0 0 0 0 0 0 0\n\
         1 0 0 255 45 471 1 1 64 339 0 0 0 2 32 285 0 0 0 0 0 0 0 0 0 0 0 0 0 0\n";
     assert_eq!((status, out.as_str()), (0, lines));
@@ -211,14 +211,13 @@ fn trace_shows_a_stream() {
     assert_eq!(registers(&own), registers(&other));
     // By version 1 no tick leaves a remainder.
     let mut bytes = std::fs::read(&stream).unwrap();
-    bytes[4] = 1;
-    std::fs::write(&stream, &bytes).unwrap();
+    std::fs::write(&stream, older(&bytes, 1)).unwrap();
     let old = lines(&stream);
     assert!(
         old.contains("\n0 - - 255 0 470 ") && old.contains("\n1 - - 255 0 470 "),
         "{old}"
     );
-    for version in [0, 3, 255] {
+    for version in [0, 4, 255] {
         bytes[4] = version;
         std::fs::write(&stream, &bytes).unwrap();
         assert_eq!(told(&["trace", "--plain", &stream]).1, "22 4 0\n");

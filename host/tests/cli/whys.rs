@@ -65,7 +65,9 @@ fn a_channel_that_is_not_there_is_refused() {
         let ticks = ["--ticks", "4294967295"];
         let words = [&["why", &module, "--channel", channel][..], &ticks].concat();
         let (status, out, _) = told(&words);
-        let line = format!("{module}: refused 25 at 0: the channel is not 1 to 4\n");
+        let line = format!(
+            "{module}: refused 25 at 0: the module has no channel of this number (channels 4)\n"
+        );
         assert_eq!((status, out), (1, line));
     }
     let words = ["why", &module, "--channel", "0", "--plain"];
