@@ -3,7 +3,8 @@
    written. */
 #include "files.h"
 
-enum { STREAM_VERSION = 4, STREAM_START = 9, COMMAND_BYTES = 6, MODULE_REFUSALS = 10 };
+/* Where a stream's version is, and its records without a channel count, which version 3 has. */
+enum { STREAM_VERSION = 4, STREAM_START = 9, COUNTED_VERSION = 3, COMMAND_BYTES = 6, MODULE_REFUSALS = 10 };
 /* The numbers of a piece: 32 ticks or more. Each piece runs the ticks before it once more, so a larger one takes less time. */
 enum { PIECE = 32 * LAMPTHISTLE_TICK_NUMBERS };
 
@@ -35,7 +36,7 @@ static size_t pass(board *b, uint64_t ticks) {
 static int play(board *b, FILE *out) {
     static int16_t piece[PIECE];
     uint64_t answer[LAMPTHISTLE_ANSWER_CELLS], frames = 0;
-    for (b->at = STREAM_START;;) {
+    for (b->at = STREAM_START + (b->stream[STREAM_VERSION] >= COUNTED_VERSION);;) {
         size_t numbers;
         lampthistle_play_stream_from(b->stream, b->stream_length, b->module, b->module_length, b->tick, piece, PIECE, answer);
         if (answer[LAMPTHISTLE_COUNT] == 0) break;

@@ -5,7 +5,7 @@ enum { FRAMES = 960, SAMPLE = 8, LOUD = 100, NUMBER = 2 * 64 * LOUD, OLD_TICK = 
 
 /* A NaN that signals: what is kept keeps its bits. */
 static const uint32_t NAN_BITS = 0x7FA12345;
-static const uint8_t ONE_NOTE[] = {0, 0, 0, 0x0D, 2, 0, 0, 0, 1, 1, 0x7D, 1, 0x40, 1, 0xAC, 1, 0};
+static const uint8_t ONE_NOTE[] = {0, 0, 0, 0x0E, 3, 4, 0, 0, 0, 1, 1, 0x7D, 1, 0x40, 1, 0xAC, 1, 0};
 
 static uint8_t file[SMALLEST + SAMPLE];
 static float out[3 * 2 * FRAMES], pair[2];
@@ -108,7 +108,7 @@ static void check_board(void) {
 /* A note that is held through three ticks: from each of them on, floats and record are the whole's, and the record's tick counts in the
    call. Without a frame both stay. */
 static void check_from(void) {
-    static const uint8_t HELD[] = {0, 0, 0, 17, 2, 0, 0, 0, 3, 1, 0x7D, 1, 0x40, 1, 0xAC, 1, 0, 0, 0x7D, 0, 0x7D};
+    static const uint8_t HELD[] = {0, 0, 0, 18, 3, 4, 0, 0, 0, 3, 1, 0x7D, 1, 0x40, 1, 0xAC, 1, 0, 0, 0x7D, 0, 0x7D};
     static float whole[3 * 2 * FRAMES];
     float last[2];
     uint32_t sides, from;

@@ -12,7 +12,7 @@ static void check_fresh(void) {
     CHECK(state.cell[LAMPTHISTLE_SPEED] == 6);
     CHECK(state.cell[LAMPTHISTLE_TEMPO] == 125);
     CHECK(state.cell[LAMPTHISTLE_REMAINDER] == 0);
-    CHECK(state.cell[LAMPTHISTLE_CHANNEL_CELL(3, LAMPTHISTLE_VOICE_STOPPED)] == 1);
+    CHECK(state.cell[LAMPTHISTLE_CHANNEL_CELL(LAMPTHISTLE_CHANNELS - 1, LAMPTHISTLE_VOICE_STOPPED)] == 1);
 }
 
 /* A tick a call at tempo 255: its numbers follow from the states around it, and 255 of them have 120,000 frames. */

@@ -1,7 +1,7 @@
 /* Why a channel is quiet, as a C and a C++ program ask. */
 #include "check.h"
 
-enum { SAMPLE = 8, NOTE = 428 };
+enum { SAMPLE = 8, NOTE = 428, CHANNELS = 4 };
 
 static uint8_t file[SMALLEST + SAMPLE];
 static lampthistle_state state;
@@ -36,7 +36,7 @@ static void ask(uint32_t channel, uint64_t number, uint64_t count, int line) {
 static void check_fresh(void) {
     uint32_t channel;
     lampthistle_fresh(state.cell);
-    for (channel = 1; channel <= LAMPTHISTLE_CHANNELS; channel++) CHECK_CAUSE(channel, LAMPTHISTLE_CAUSE_NO_SAMPLE);
+    for (channel = 1; channel <= CHANNELS; channel++) CHECK_CAUSE(channel, LAMPTHISTLE_CAUSE_NO_SAMPLE);
 }
 
 /* Each cause with all that come after it. */
@@ -63,7 +63,7 @@ static void check_causes(void) {
 
 static void check_refusals(void) {
     CHECK_REFUSED(0, LAMPTHISTLE_REFUSED_CHANNEL);
-    CHECK_REFUSED(5, LAMPTHISTLE_REFUSED_CHANNEL);
+    CHECK_REFUSED(CHANNELS + 1, LAMPTHISTLE_REFUSED_CHANNEL);
     CHECK_REFUSED(UINT32_MAX, LAMPTHISTLE_REFUSED_CHANNEL);
     set_voice(1, NOTE, 1, SAMPLE, 0);
     CHECK_REFUSED(2, LAMPTHISTLE_REFUSED_STATE);

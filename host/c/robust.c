@@ -186,6 +186,9 @@ static void states(const input *in, int k) {
     memcpy(cells, in->state.at, state.bytes);
     lampthistle_judge(in->module.at, in->module.bytes, answer);
     count(answer, k);
+    check((lampthistle_channels(in->module.at, in->module.bytes) == 0) ==
+              (answer[LAMPTHISTLE_NUMBER] == LAMPTHISTLE_REFUSED_SHORT_FILE || answer[LAMPTHISTLE_NUMBER] == LAMPTHISTLE_REFUSED_TAG),
+          "channels and judge", k);
     for (uint32_t channel = 0; channel <= LAMPTHISTLE_CHANNELS + 1; channel++) {
         lampthistle_why_quiet(in->module.at, in->module.bytes, cells, channel, answer);
         count(answer, k);

@@ -30,6 +30,11 @@ static void *judge(void *none) {
     return none;
 }
 
+static void *channels(void *none) {
+    lampthistle_channels(module, module_length);
+    return none;
+}
+
 static void *fresh(void *none) {
     lampthistle_fresh(state.cell);
     return none;
@@ -119,7 +124,7 @@ static int measure_all(void) {
     static const struct {
         const char *name;
         void *(*call)(void *);
-    } CALLS[] = {{"fresh", fresh}, {"judge", judge}, {"play", play}, {"why_quiet", why_quiet}, {"touch", touch},
+    } CALLS[] = {{"fresh", fresh}, {"judge", judge}, {"channels", channels}, {"play", play}, {"why_quiet", why_quiet}, {"touch", touch},
                  {"touch_burst", touch_burst}, {"change_page", change_page}, {"translate", translate}, {"play_stream", play_stream},
                  {"play_stream_from", play_stream_from}},
       FLOATS[] = {{"play_floats", play_floats}, {"play_stream_floats", play_stream_floats},

@@ -1,8 +1,10 @@
-/* The calls for tick streams, as a C and a C++ program use them: the two whole streams of the description, by versions 1 and 2. */
+/* The calls for tick streams, as a C and a C++ program use them: the two whole streams of the description, by versions 1, 2 and 3. */
 #include "check.h"
 
-static const uint8_t EMPTY_ROW[] = {0, 0, 0, 7, 2, 0, 0, 0, 1, 0, 0x7D};
-static const uint8_t ONE_NOTE[] = {0, 0, 0, 0x0D, 2, 0, 0, 0, 1, 1, 0x7D, 1, 0x40, 1, 0xAC, 1, 0};
+static const uint8_t EMPTY_ROW[] = {0, 0, 0, 8, 3, 4, 0, 0, 0, 1, 0, 0x7D};
+static const uint8_t ONE_NOTE[] = {0, 0, 0, 0x0E, 3, 4, 0, 0, 0, 1, 1, 0x7D, 1, 0x40, 1, 0xAC, 1, 0};
+/* The second by an older version, which has no channel count. */
+static uint8_t old_note[] = {0, 0, 0, 0x0D, 1, 0, 0, 0, 1, 1, 0x7D, 1, 0x40, 1, 0xAC, 1, 0};
 
 enum { TICK = 2 * 960, SAMPLE = 8, LOUD = 100, FILLED = 0x55, VERSION = 4 };
 
@@ -35,8 +37,8 @@ static void add_note(void) {
 
 static void check_board(void) {
     static int16_t board[TICK], player[TICK];
-    uint8_t first[sizeof ONE_NOTE];
     lampthistle_state state;
+    uint8_t version;
     lampthistle_fresh(state.cell);
     lampthistle_play(file, sizeof file, state.cell, 1, player, TICK, answer);
     CHECK_ANSWER(answer, LAMPTHISTLE_ACCEPTED, 0, 1);
@@ -45,19 +47,20 @@ static void check_board(void) {
     CHECK(memcmp(board, player, sizeof board) == 0);
     CHECK(board[TICK - 2] == 2 * 64 * LOUD);
     CHECK(board[TICK - 1] == 0);
-    memcpy(first, ONE_NOTE, sizeof first);
-    first[VERSION] = 1;
-    memset(board, 0, sizeof board);
-    lampthistle_play_stream(first, sizeof first, file, sizeof file, board, TICK, answer);
-    CHECK_ANSWER(answer, LAMPTHISTLE_ACCEPTED, 0, 1);
-    CHECK(memcmp(board, player, sizeof board) == 0);
+    for (version = 1; version <= 2; version++) {
+        old_note[VERSION] = version;
+        memset(board, 0, sizeof board);
+        lampthistle_play_stream(old_note, sizeof old_note, file, sizeof file, board, TICK, answer);
+        CHECK_ANSWER(answer, LAMPTHISTLE_ACCEPTED, 0, 1);
+        CHECK(memcmp(board, player, sizeof board) == 0);
+    }
 }
 
 /* Three ticks at tempo 255 have 1,411 frames, by version 1 three times 470; there are no other versions. */
 static void check_versions(void) {
     static int16_t out[2 * 1411];
     uint8_t stream[] = {0, 0, 0, 11, 2, 0, 0, 0, 3, 0, 255, 0, 255, 0, 255};
-    static const uint8_t OTHERS[] = {0, 3, 255};
+    static const uint8_t OTHERS[] = {0, 4, 255};
     size_t k;
     lampthistle_play_stream(stream, sizeof stream, file, sizeof file, out, 2 * 1411, answer);
     CHECK_ANSWER(answer, LAMPTHISTLE_ACCEPTED, 0, 3);
@@ -76,7 +79,7 @@ static void check_versions(void) {
 /* A note that is held through four ticks at tempo 255, of 470, 471, 470 and 471 frames: whatever tick a play begins with, its frames are
    those of the whole, and a buffer one number short of a tick takes none. */
 static void check_from(void) {
-    static const uint8_t HELD[] = {0, 0, 0, 19, 2, 0, 0, 0, 4, 1, 255, 1, 0x40, 1, 0xAC, 1, 0, 0, 255, 0, 255, 0, 255};
+    static const uint8_t HELD[] = {0, 0, 0, 20, 3, 4, 0, 0, 0, 4, 1, 255, 1, 0x40, 1, 0xAC, 1, 0, 0, 255, 0, 255, 0, 255};
     static const size_t BEGIN[] = {0, 940, 1882, 2822, 3764};
     static int16_t whole[3764], part[3764];
     uint32_t from;
