@@ -4,21 +4,77 @@ use second::generate::draft::Draft;
 /// A stored file's name, in the order of the program's arguments, and its bytes.
 pub type Case = (&'static str, Vec<u8>);
 
+/// A module of so many channels, 4, 6 or 8: one empty pattern, no samples.
+pub fn wide(channels: usize) -> Draft {
+    let mut draft = Draft::empty();
+    draft.channels = channels;
+    draft.tag = *match channels {
+        6 => b"6CHN",
+        8 => b"8CHN",
+        _ => b"M.K.",
+    };
+    draft
+}
+
+/// How many channels a good file has, by its tag.
+pub fn channels(file: &[u8]) -> usize {
+    match &file[1080..1084] {
+        b"6CHN" => 6,
+        b"8CHN" => 8,
+        _ => 4,
+    }
+}
+
 /// 2,108 good bytes: one pattern, no samples.
 fn good() -> Vec<u8> {
     Draft::empty().bytes()
 }
 
-/// The good file with some bytes changed.
-fn with(changes: &[(usize, u8)]) -> Vec<u8> {
-    let mut file = good();
+/// A good file with some bytes changed.
+fn changed(mut file: Vec<u8>, changes: &[(usize, u8)]) -> Vec<u8> {
     for &(at, byte) in changes {
         file[at] = byte;
     }
     file
 }
 
+/// The good file of four channels with some bytes changed.
+fn with(changes: &[(usize, u8)]) -> Vec<u8> {
+    changed(good(), changes)
+}
+
+/// A good file of so many channels with another tag.
+fn tagged(channels: usize, tag: &[u8; 4]) -> Vec<u8> {
+    let mut draft = wide(channels);
+    draft.tag = *tag;
+    draft.bytes()
+}
+
 pub fn judge_cases() -> Vec<Case> {
+    let mut cases = four_channels();
+    cases.extend(more_channels());
+    cases
+}
+
+/// Each tag, and tags that are near them; a byte less than six channels take; a bad cell on the last channel.
+fn more_channels() -> Vec<Case> {
+    const LAST_OF_6: usize = 1084 + 4 * (6 * 25 + 5);
+    const LAST_OF_8: usize = 1084 + 4 * (8 * 25 + 7);
+    let (six, eight) = (wide(6).bytes(), wide(8).bytes());
+    vec![
+        ("tag_4CHN", tagged(4, b"4CHN")),
+        ("tag_6CHN", six.clone()),
+        ("tag_8CHN", eight.clone()),
+        ("tag_MK_marked", tagged(4, b"M!K!")),
+        ("tag_2CHN", tagged(4, b"2CHN")),
+        ("tag_6CHM", tagged(6, b"6CHM")),
+        ("bytes_2619_of_6", six[..2619].to_vec()),
+        ("number_32_on_8", changed(eight, &[(LAST_OF_8, 0x20)])),
+        ("period_112_on_6", changed(six, &[(LAST_OF_6 + 1, 112)])),
+    ]
+}
+
+fn four_channels() -> Vec<Case> {
     const CELL: usize = 1084 + 4 * 100;
     vec![
         ("empty", Vec::new()),

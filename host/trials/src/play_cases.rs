@@ -1,11 +1,11 @@
 //! The stored modules of crates/play_cases, and what its program prints for each: the name, then a line a tick of plain decimal numbers
 //! with a space between two,
 //!
-//! `POSITION ROW TICK TEMPO (SAMPLE PERIOD VOLUME INDEX FRACTION STOPPED)x4 CHECKSUM`
+//! `POSITION ROW TICK TEMPO (SAMPLE PERIOD VOLUME INDEX FRACTION STOPPED)xCHANNELS CHECKSUM`
 //!
-//! with position, row and tick in the row before the tick, and tempo and the four voices as the tick leaves them in the state. The
-//! checksum goes over the tick's numbers in their order, from h = 0: h = (h * 31 + number mod 65,536) mod 65,521.
-use crate::cases::Case;
+//! with position, row and tick in the row before the tick, and tempo and the voices of the module's channels as the tick leaves them in
+//! the state. The checksum goes over the tick's numbers in their order, from h = 0: h = (h * 31 + number mod 65,536) mod 65,521.
+use crate::cases::{channels, wide, Case};
 use lampthistle::cell;
 use second::generate::draft::Draft;
 use second::generate::Random;
@@ -24,6 +24,8 @@ pub fn play_cases() -> Vec<Case> {
         ("edges", edges()),
         ("breaks", breaks()),
         ("waves", waves()),
+        ("six", six()),
+        ("eight", eight()),
     ]
 }
 
@@ -94,7 +96,7 @@ fn flow() -> Vec<u8> {
     let mut draft = Draft::empty();
     draft.song_length = 3;
     draft.table[..3].copy_from_slice(&[0, 1, 0]);
-    draft.patterns.push(draft.patterns[0]);
+    draft.patterns.push(draft.patterns[0].clone());
     draft.add_looped(1, 50, 0, 30, &noise(3, 60));
     column(
         &mut draft,
@@ -167,11 +169,11 @@ fn breaks() -> Vec<u8> {
     let mut draft = Draft::empty();
     draft.song_length = BREAKS.len() as u8 + 1;
     draft.add_looped(1, 64, 0, 30, &noise(5, 60));
-    let empty = draft.patterns[0];
+    let empty = draft.patterns[0].clone();
     let mut row = 0;
     for (position, (effect, next)) in BREAKS.into_iter().enumerate() {
         draft.put(position, row, 0, 1, 428, effect);
-        draft.patterns.push(empty);
+        draft.patterns.push(empty.clone());
         draft.table[position + 1] = position as u8 + 1;
         row = next;
     }
@@ -250,6 +252,54 @@ fn waves() -> Vec<u8> {
     draft.bytes()
 }
 
+/// Six channels, three a side: notes that come one after the other, a slide and a fade, then the loudest on all of them.
+fn six() -> Vec<u8> {
+    let mut draft = wide(6);
+    draft.add_looped(1, 64, 10, 60, &noise(8, 140));
+    draft.add_looped(2, 64, 0, 2, &[128; 4]);
+    for channel in 0..6 {
+        let period = 160 + 40 * channel as u32;
+        draft.put(0, channel, channel, 1, period, 0xC20 + channel as u32);
+        draft.put(0, 10, channel, 2, 428, 0);
+    }
+    column(&mut draft, 5, &[(0, 0, 0xF03), (0, 0, 0xFFF)]);
+    draft.put(0, 7, 4, 0, 0, 0x208);
+    draft.put(0, 8, 5, 0, 0, 0xA06);
+    draft.bytes()
+}
+
+/// Eight channels, four a side, over two patterns: what one channel says of the row, the last decides, and the loudest on all of them.
+fn eight() -> Vec<u8> {
+    let mut draft = wide(8);
+    draft.song_length = 2;
+    draft.table[1] = 1;
+    draft.patterns.push(draft.patterns[0].clone());
+    draft.add_looped(1, 60, 10, 60, &noise(9, 140));
+    draft.add_looped(2, 64, 0, 2, &[128; 4]);
+    draft.add_sample(3, 64, &noise(10, 600));
+    for channel in 0..8 {
+        let k = channel as u32;
+        draft.put(
+            0,
+            channel / 2,
+            channel,
+            1 + 2 * (k % 2),
+            214 + 30 * k,
+            0x400 + 0x11 * k,
+        );
+        draft.put(1, 3, channel, 2, 428, 0);
+    }
+    // Speed, tempo, delay, break and jump on channels that four have not.
+    draft.put(0, 4, 4, 0, 0, 0xF03);
+    draft.put(0, 4, 6, 0, 0, 0xFFF);
+    draft.put(0, 5, 1, 0, 0, 0xEE3);
+    draft.put(0, 5, 7, 0, 0, 0xEE1);
+    draft.put(0, 6, 5, 0, 0, 0xB01);
+    draft.put(0, 6, 7, 0, 0, 0xD02);
+    draft.put(1, 5, 4, 0, 0, 0xB00);
+    draft.bytes()
+}
+
 /// What the program prints, by the second implementation.
 pub fn play_lines() -> String {
     let mut text = String::new();
@@ -267,7 +317,7 @@ pub fn play_lines() -> String {
 fn tick_line(text: &mut String, file: &[u8], cells: &mut [u32; second::STATE_CELLS]) {
     let trace = second::trace_tick(file, cells).expect("a stored module is accepted");
     let mut numbers = vec![trace.position, trace.row, trace.tick, cells[cell::TEMPO]];
-    for channel in 0..4 {
+    for channel in 0..channels(file) {
         let voice = cell::channel(channel) + cell::VOICE_SAMPLE;
         numbers.extend_from_slice(&cells[voice..voice + VOICE_CELLS]);
     }
