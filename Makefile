@@ -1,5 +1,5 @@
 # make lib                  the C library and its header, in out/
-# make demo                 writes two modules, plays one, translates it, plays its stream, and compares; all in out/
+# make demo                 writes three modules, plays them, translates one and plays its stream, and compares; all in out/
 # make judge FILE=song.mod  judges a file
 # make test                 everything: the proofs, the programs, the host's tests (.ci/run)
 # make host-test            the host's tests alone: c-test, robust, install-test and cargo's
@@ -36,7 +36,7 @@ judge: lib
 	@$(CARGO) run --release --locked --quiet -p lampthistle -- judge -- "$${FILE:?usage: make judge FILE=song.mod}"
 
 demo: all
-	$(BUILT)/demo out/demo.mod out/waves.mod
+	$(BUILT)/demo out/demo.mod out/waves.mod out/eight.mod
 	$(PLAY) info out/demo.mod
 	$(PLAY) play out/demo.mod --once --out out/demo.wav
 	$(PLAY) translate out/demo.mod --once --out out/demo.stream
@@ -45,6 +45,8 @@ demo: all
 	cmp out/demo.wav out/demo-board.wav
 	$(PLAY) play out/waves.mod --once --out out/waves.wav
 	$(PLAY) compare out/waves.mod --once
+	$(PLAY) play out/eight.mod --once --out out/eight.wav
+	$(PLAY) compare out/eight.mod --once
 
 bench: all
 	$(BUILT)/bench
@@ -72,6 +74,7 @@ c-test: demo
 	done
 	$(CC) -std=c99 $(C_WARNINGS) -pthread -Iout host/c/stack.c out/liblampthistle.a -o out/stack
 	out/stack out/demo.mod
+	out/stack out/eight.mod
 	for part in panel board; do \
 	    $(CC) -std=c99 $(C_WARNINGS) -Iout examples/$$part.c out/liblampthistle.a -o out/$$part || exit 1; \
 	    $(CXX) -std=c++11 $(C_WARNINGS) -x c++ -Iout examples/$$part.c -x none out/liblampthistle.a -o out/$${part}_cc || exit 1; \

@@ -1,5 +1,6 @@
 //! The demo module: four bars of bass, lead, pad and drums over three patterns, with arpeggios, slides, loops, a pattern break and a
 //! delay.
+pub mod eight;
 mod sounds;
 pub mod waves;
 
@@ -85,7 +86,7 @@ pub fn module() -> Vec<u8> {
     add(&mut draft, HAT, "hat", 28, &sounds::hat());
     draft.song_length = 4;
     draft.table[..4].copy_from_slice(&[0, 1, 0, 2]);
-    draft.patterns = vec![draft.patterns[0]; 3];
+    draft.patterns = vec![draft.patterns[0].clone(); 3];
     for pattern in 0..3 {
         for bar in 0..BARS.len() {
             bass_bar(&mut draft, pattern, bar);
