@@ -4,12 +4,20 @@
    side after the other, `mix_four` all four voices at once; which is faster depends on the case. Tried, and slower: a position of its own
    for each voice, of 32 or 64 bits; one multiplication for both voices of a side; loops unrolled by hand; one store for both sides; bytes
    gathered in a buffer first. Not tried: tables of products, vector types. `mix_bytes` goes the proved mixer's way, with buffers: all frames of
-   a byte at once, voice by voice. */
+   a byte at once, voice by voice. Each way is there for six and eight channels, too, in the same form: faster ones were not looked for. */
 #include <stddef.h>
 #include <stdint.h>
 #include <string.h>
 
 enum { SILENT_BYTES = 2 }; /* the first bytes of a sample, which read as 0 */
+enum { MOST = 8, MOST_SIDE = MOST / 2 };
+/* A side of four channels is twice the sum, of six and eight the plain sum. */
+enum { DOUBLED = 2, PLAIN = 1 };
+
+/* The channels of each side, from 0; of fewer than eight the first. */
+static const int LEFT[MOST_SIDE] = {0, 3, 4, 7}, RIGHT[MOST_SIDE] = {1, 2, 5, 6};
+
+static int is_right(int channel) { return (channel + 1) / 2 % 2; }
 
 typedef struct voice {
     const int8_t *bytes;
@@ -61,6 +69,21 @@ void mix_plain(voice *v, int16_t *out, size_t frames) {
     }
 }
 
+/* The same for any count of channels. */
+static inline void mix_steps(voice *v, const int count, int16_t *out, size_t frames) {
+    uint32_t growths[MOST];
+    for (int i = 0; i < count; i++) growths[i] = growth(&v[i]);
+    for (size_t k = 0; k < frames; k++) {
+        int32_t sides[2] = {0, 0};
+        for (int i = 0; i < count; i++) sides[is_right(i)] += step(&v[i], growths[i]);
+        out[2 * k] = (int16_t)sides[0];
+        out[2 * k + 1] = (int16_t)sides[1];
+    }
+}
+
+void mix_plain_six(voice *v, int16_t *out, size_t frames) { mix_steps(v, 6, out, frames); }
+void mix_plain_eight(voice *v, int16_t *out, size_t frames) { mix_steps(v, 8, out, frames); }
+
 /* ---- a side after the other */
 
 /* A voice from limit to limit: its sample's end, and the end of the silent bytes. */
@@ -69,7 +92,8 @@ typedef struct track {
     uint64_t at;     /* index and fraction */
     uint32_t growth;
     uint32_t left;   /* frames to the next limit */
-    int32_t weight;  /* twice the volume, or 0 where the voice gives nothing */
+    int32_t full;    /* the volume, as a side takes it */
+    int32_t weight;  /* the same, or 0 where the voice gives nothing */
     uint32_t from;   /* where its loop sounds first; from there 65,536 a byte are frames x growth + rest */
     uint32_t frames, rest;
 } track;
@@ -80,15 +104,15 @@ static uint32_t frames_to(uint64_t at, uint32_t index, uint32_t growth) {
 
 static void aim(track *t, const voice *v) {
     const uint32_t index = (uint32_t)(t->at >> 16), fraction = t->at & 65535;
-    t->weight = index < SILENT_BYTES ? 0 : 2 * v->volume;
+    t->weight = index < SILENT_BYTES ? 0 : t->full;
     if (index == t->from)
         t->left = t->frames + (t->rest > fraction);
     else
         t->left = frames_to(t->at, index < SILENT_BYTES ? SILENT_BYTES : v->end, t->growth);
 }
 
-static track begin(const voice *v) {
-    track t = {v->bytes, (uint64_t)v->index << 16 | v->fraction, growth(v), UINT32_MAX, 0, UINT32_MAX, 0, 0};
+static track begin(const voice *v, int32_t times) {
+    track t = {v->bytes, (uint64_t)v->index << 16 | v->fraction, growth(v), UINT32_MAX, times * v->volume, 0, UINT32_MAX, 0, 0};
     if (!moves(v)) return t;
     aim(&t, v);
     /* A step that comes to `from` leaves a fraction below the growth, so that no division is wanted there again. */
@@ -133,7 +157,7 @@ static void run_one(const track *t, int16_t *out, uint32_t frames) {
 }
 
 static void mix_side(voice *v, voice *w, int16_t *out, size_t frames) {
-    track t = begin(v), u = begin(w);
+    track t = begin(v, DOUBLED), u = begin(w, DOUBLED);
     while (frames != 0) {
         uint32_t run = t.left < u.left ? t.left : u.left;
         if (run > frames) run = (uint32_t)frames;
@@ -163,7 +187,68 @@ void mix_sides(voice *v, int16_t *out, size_t frames) {
     mix_side(&v[1], &v[2], out + 1, frames);
 }
 
-/* ---- all four at once */
+/* More than two voices that sound, again two positions in one number. */
+static inline void run_more(const track *const *t, const int count, int16_t *out, uint32_t frames) {
+    const int8_t *bytes[MOST_SIDE];
+    int32_t weight[MOST_SIDE];
+    uint64_t at[2] = {0, 0}, growth[2] = {0, 0};
+    for (int i = 0; i < count; i++) {
+        bytes[i] = t[i]->bytes + (t[i]->at >> 16);
+        weight[i] = t[i]->weight;
+        at[i / 2] |= (t[i]->at & 65535) << 32 * (i % 2);
+        growth[i / 2] |= (uint64_t)t[i]->growth << 32 * (i % 2);
+    }
+    for (size_t k = 0; k < frames; k++, at[0] += growth[0], at[1] += growth[1]) {
+        int32_t sum = 0;
+        for (int i = 0; i < count; i++) sum += bytes[i][i % 2 ? at[i / 2] >> 48 : (uint32_t)at[i / 2] >> 16] * weight[i];
+        out[2 * k] = (int16_t)sum;
+    }
+}
+
+static void run_sounding(const track *const *t, int count, int16_t *out, uint32_t frames) {
+    switch (count) {
+    case 0:
+        for (size_t k = 0; k < frames; k++) out[2 * k] = 0;
+        break;
+    case 1: run_one(t[0], out, frames); break;
+    case 2: run_two(t[0], t[1], out, frames); break;
+    case 3: run_more(t, 3, out, frames); break;
+    default: run_more(t, 4, out, frames);
+    }
+}
+
+/* A side of up to four channels. */
+static void mix_more(voice *v, const int *channels, int count, int16_t *out, size_t frames) {
+    track t[MOST_SIDE];
+    for (int i = 0; i < count; i++) t[i] = begin(&v[channels[i]], PLAIN);
+    while (frames != 0) {
+        const track *sounding[MOST_SIDE];
+        uint32_t run = (uint32_t)frames;
+        int sound = 0;
+        for (int i = 0; i < count; i++) {
+            if (t[i].left < run) run = t[i].left;
+            if (t[i].weight != 0) sounding[sound++] = &t[i];
+        }
+        run_sounding(sounding, sound, out, run);
+        for (int i = 0; i < count; i++) go_on(&t[i], &v[channels[i]], run);
+        out += 2 * run;
+        frames -= run;
+    }
+    for (int i = 0; i < count; i++) {
+        v[channels[i]].index = (uint32_t)(t[i].at >> 16);
+        v[channels[i]].fraction = t[i].at & 65535;
+    }
+}
+
+static void mix_more_sides(voice *v, int count, int16_t *out, size_t frames) {
+    mix_more(v, LEFT, count / 2, out, frames);
+    mix_more(v, RIGHT, count / 2, out + 1, frames);
+}
+
+void mix_sides_six(voice *v, int16_t *out, size_t frames) { mix_more_sides(v, 6, out, frames); }
+void mix_sides_eight(voice *v, int16_t *out, size_t frames) { mix_more_sides(v, 8, out, frames); }
+
+/* ---- all at once */
 
 /* What a voice reads in a run: its byte moves on where the fraction, in the high half, overflows. */
 typedef struct line {
@@ -172,11 +257,11 @@ typedef struct line {
     int32_t weight;
 } line;
 
-static line line_of(const voice *v, uint32_t growth) {
+static line line_of(const voice *v, uint32_t growth, int32_t times) {
     static const int8_t nothing[1];
     line l = {nothing, 0, 0, 0};
     if (moves(v) && v->index >= SILENT_BYTES && v->volume != 0) {
-        line sounding = {v->bytes + v->index, v->fraction << 16, growth << 16, 2 * v->volume};
+        line sounding = {v->bytes + v->index, v->fraction << 16, growth << 16, times * v->volume};
         l = sounding;
     }
     return l;
@@ -196,6 +281,27 @@ static void run_four(const line *l, int16_t *out, size_t frames) {
     }
 }
 
+/* The same for any count of channels. */
+static inline void run_lines(const line *l, const int count, int16_t *out, size_t frames) {
+    const int8_t *byte[MOST];
+    uint32_t fraction[MOST];
+    for (int i = 0; i < count; i++) byte[i] = l[i].byte, fraction[i] = l[i].fraction;
+    for (size_t k = 0; k < frames; k++) {
+        int32_t sides[2] = {0, 0};
+        for (int i = 0; i < count; i++) {
+            const uint32_t next = fraction[i] + l[i].growth;
+            sides[is_right(i)] += *byte[i] * l[i].weight;
+            byte[i] += next < fraction[i];
+            fraction[i] = next;
+        }
+        out[2 * k] = (int16_t)sides[0];
+        out[2 * k + 1] = (int16_t)sides[1];
+    }
+}
+
+static void run_six(const line *l, int16_t *out, size_t frames) { run_lines(l, 6, out, frames); }
+static void run_eight(const line *l, int16_t *out, size_t frames) { run_lines(l, 8, out, frames); }
+
 static void go_far(voice *v, uint32_t growth, size_t frames) {
     const uint64_t at = ((uint64_t)v->index << 16 | v->fraction) + (uint64_t)frames * growth;
     if (!moves(v)) return;
@@ -211,7 +317,7 @@ void mix_four(voice *v, int16_t *out, size_t frames) {
         size_t run = frames;
         int sounds = 0;
         for (int k = 0; k < 4; k++) {
-            lines[k] = line_of(&v[k], growths[k]);
+            lines[k] = line_of(&v[k], growths[k], DOUBLED);
             sounds |= lines[k].weight;
             if (moves(&v[k])) {
                 uint64_t at = (uint64_t)v[k].index << 16 | v[k].fraction;
@@ -228,6 +334,33 @@ void mix_four(voice *v, int16_t *out, size_t frames) {
         frames -= run;
     }
 }
+
+typedef void run_of(const line *l, int16_t *out, size_t frames);
+
+/* The same for any count of channels. It stands apart: as one function, four took half longer in short loops. */
+static inline void mix_at_once(voice *v, const int count, run_of *run_all, int16_t *out, size_t frames) {
+    uint32_t growths[MOST];
+    for (int k = 0; k < count; k++) growths[k] = growth(&v[k]);
+    while (frames != 0) {
+        line lines[MOST];
+        size_t run = frames;
+        for (int k = 0; k < count; k++) {
+            lines[k] = line_of(&v[k], growths[k], PLAIN);
+            if (moves(&v[k])) {
+                uint64_t at = (uint64_t)v[k].index << 16 | v[k].fraction;
+                uint32_t left = frames_to(at, v[k].index < SILENT_BYTES ? SILENT_BYTES : v[k].end, growths[k]);
+                if (left < run) run = left;
+            }
+        }
+        run_all(lines, out, run);
+        for (int k = 0; k < count; k++) go_far(&v[k], growths[k], run);
+        out += 2 * run;
+        frames -= run;
+    }
+}
+
+void mix_six(voice *v, int16_t *out, size_t frames) { mix_at_once(v, 6, run_six, out, frames); }
+void mix_eight(voice *v, int16_t *out, size_t frames) { mix_at_once(v, 8, run_eight, out, frames); }
 
 /* ---- all frames of a byte at once */
 
@@ -248,7 +381,20 @@ static void fill_run(const voice *v, int32_t weight, uint32_t growth, uint64_t i
     }
 }
 
-static void spread(voice *v, uint32_t growth, uint64_t inverse, size_t frames, int16_t *cells) {
+/* What stays the same for a voice through a tick. */
+typedef struct pace {
+    uint32_t growth;
+    uint64_t inverse;
+    int32_t weight;
+} pace;
+
+static pace pace_of(const voice *v, int32_t times) {
+    const uint32_t g = growth(v);
+    const pace p = {g, g == 0 ? 0 : (1ull << INVERSE_BITS) / g + 1, times * v->volume};
+    return p;
+}
+
+static void spread(voice *v, const pace *p, size_t frames, int16_t *cells) {
     for (size_t k = 0, run; k < frames; k += run) {
         run = frames - k;
         if (!moves(v)) {
@@ -257,20 +403,20 @@ static void spread(voice *v, uint32_t growth, uint64_t inverse, size_t frames, i
         }
         const uint32_t limit = v->index < SILENT_BYTES ? SILENT_BYTES : v->end;
         const uint64_t at = (uint64_t)v->index << 16 | v->fraction, way = ((uint64_t)limit << 16) - at;
-        if (way <= (uint64_t)(run - 1) * growth) run = (size_t)((way + growth - 1) * inverse >> INVERSE_BITS);
-        fill_run(v, v->index < SILENT_BYTES ? 0 : 2 * v->volume, growth, inverse, run, cells + k);
-        go_far(v, growth, run);
+        if (way <= (uint64_t)(run - 1) * p->growth) run = (size_t)((way + p->growth - 1) * p->inverse >> INVERSE_BITS);
+        fill_run(v, v->index < SILENT_BYTES ? 0 : p->weight, p->growth, p->inverse, run, cells + k);
+        go_far(v, p->growth, run);
     }
 }
 
-/* A side of a piece: the first voice that sounds is spread into its cells, the other added. */
-static void spread_side(voice *v, const int *channels, const uint32_t *growths, const uint64_t *inverses, size_t frames, int16_t *cells) {
+/* A side of a piece: the first voice that sounds is spread into its cells, the others added. */
+static void spread_side(voice *v, const pace *paces, const int *channels, int count, size_t frames, int16_t *cells) {
     int16_t further[PIECE + MOST_FRAMES];
     int sounds = 0;
-    for (int i = 0; i < 2; i++) {
+    for (int i = 0; i < count; i++) {
         const int k = channels[i];
         if (!moves(&v[k])) continue;
-        spread(&v[k], growths[k], inverses[k], frames, sounds ? further : cells);
+        spread(&v[k], &paces[k], frames, sounds ? further : cells);
         if (sounds)
             for (size_t j = 0; j < frames; j++) cells[j] = (int16_t)(cells[j] + further[j]);
         sounds = 1;
@@ -278,22 +424,21 @@ static void spread_side(voice *v, const int *channels, const uint32_t *growths, 
     if (!sounds) memset(cells, 0, frames * sizeof cells[0]);
 }
 
-void mix_bytes(voice *v, int16_t *out, size_t frames) {
-    static const int left[2] = {0, 3}, right[2] = {1, 2};
+static void mix_by_bytes(voice *v, int count, int32_t times, int16_t *out, size_t frames) {
     int16_t l[PIECE + MOST_FRAMES], r[PIECE + MOST_FRAMES];
-    uint32_t growths[4];
-    uint64_t inverses[4];
-    for (int k = 0; k < 4; k++) {
-        growths[k] = growth(&v[k]);
-        inverses[k] = growths[k] == 0 ? 0 : (1ull << INVERSE_BITS) / growths[k] + 1;
-    }
+    pace paces[MOST];
+    for (int k = 0; k < count; k++) paces[k] = pace_of(&v[k], times);
     for (size_t at = 0; at < frames; at += PIECE) {
         const size_t piece = frames - at < PIECE ? frames - at : PIECE;
-        spread_side(v, left, growths, inverses, piece, l);
-        spread_side(v, right, growths, inverses, piece, r);
+        spread_side(v, paces, LEFT, count / 2, piece, l);
+        spread_side(v, paces, RIGHT, count / 2, piece, r);
         for (size_t k = 0; k < piece; k++) {
             out[2 * (at + k)] = l[k];
             out[2 * (at + k) + 1] = r[k];
         }
     }
 }
+
+void mix_bytes(voice *v, int16_t *out, size_t frames) { mix_by_bytes(v, 4, DOUBLED, out, frames); }
+void mix_bytes_six(voice *v, int16_t *out, size_t frames) { mix_by_bytes(v, 6, PLAIN, out, frames); }
+void mix_bytes_eight(voice *v, int16_t *out, size_t frames) { mix_by_bytes(v, 8, PLAIN, out, frames); }

@@ -17,27 +17,34 @@ pub struct Voice {
     fraction: u32,
 }
 
-pub type Loop = unsafe extern "C" fn(*mut Voice, *mut i16, usize);
-
-extern "C" {
-    fn mix_plain(voices: *mut Voice, out: *mut i16, frames: usize);
-    fn mix_sides(voices: *mut Voice, out: *mut i16, frames: usize);
-    fn mix_four(voices: *mut Voice, out: *mut i16, frames: usize);
-    fn mix_bytes(voices: *mut Voice, out: *mut i16, frames: usize);
+/// A loop over so many voices.
+#[derive(Clone, Copy)]
+pub struct Loop<const N: usize> {
+    pub name: &'static str,
+    mix: unsafe extern "C" fn(*mut Voice, *mut i16, usize),
 }
 
-pub const LOOPS: [(&str, Loop); 4] = [
-    ("C, plain", mix_plain),
-    ("C, by sides", mix_sides),
-    ("C, four at once", mix_four),
-    ("C, by bytes", mix_bytes),
-];
+macro_rules! loops {
+    ($($list:ident: $count:literal = $($mix:ident $name:literal),*;)*) => {
+        extern "C" {
+            $($(fn $mix(voices: *mut Voice, out: *mut i16, frames: usize);)*)*
+        }
+        $(pub const $list: [Loop<$count>; WAYS] = [$(Loop { name: $name, mix: $mix }),*];)*
+    };
+}
 
-/// The first loops go over the frames once, with the voices in registers.
+/// The ways of mixing; the first of them go over the frames once, with the voices in registers.
+pub const WAYS: usize = 4;
 pub const ONE_PASS: usize = 3;
 
-/// The voices of a state that is legal for an accepted module.
-pub fn voices(file: &[u8], state: &State) -> [Voice; 4] {
+loops! {
+    FOUR: 4 = mix_plain "C, plain", mix_sides "C, by sides", mix_four "C, four at once", mix_bytes "C, by bytes";
+    SIX: 6 = mix_plain_six "C, plain", mix_sides_six "C, by sides", mix_six "C, all at once", mix_bytes_six "C, by bytes";
+    EIGHT: 8 = mix_plain_eight "C, plain", mix_sides_eight "C, by sides", mix_eight "C, all at once", mix_bytes_eight "C, by bytes";
+}
+
+/// The voices of a state that is legal for an accepted module of so many channels.
+pub fn voices<const N: usize>(file: &[u8], state: &State) -> [Voice; N] {
     let Ok(module) = Module::read(file) else {
         panic!("the module is refused");
     };
@@ -58,14 +65,16 @@ pub fn voices(file: &[u8], state: &State) -> [Voice; 4] {
     })
 }
 
-/// Fills `out` and moves the voices.
-pub fn mix(mixer: Loop, voices: &mut [Voice; 4], out: &mut [i16]) {
-    // SAFETY: four voices whose indexes stay below their ends, which are inside their samples, and pairs of numbers.
-    unsafe { mixer(voices.as_mut_ptr(), out.as_mut_ptr(), out.len() / 2) };
+impl<const N: usize> Loop<N> {
+    /// Fills `out` and moves the voices.
+    pub fn mix(&self, voices: &mut [Voice; N], out: &mut [i16]) {
+        // SAFETY: as many voices as it takes, whose indexes stay below their ends, which are inside their samples, and pairs of numbers.
+        unsafe { (self.mix)(voices.as_mut_ptr(), out.as_mut_ptr(), out.len() / 2) };
+    }
 }
 
 /// Whether the voices are where the others are.
-pub fn same_places(one: &[Voice; 4], other: &[Voice; 4]) -> bool {
+pub fn same_places(one: &[Voice], other: &[Voice]) -> bool {
     let place = |voice: &Voice| (voice.index, voice.fraction, voice.stopped);
     one.iter().map(place).eq(other.iter().map(place))
 }

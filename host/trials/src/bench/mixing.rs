@@ -1,14 +1,13 @@
 //! Mixing: ns a frame of one tick, by what its voices do, beside the C loops and the second implementation.
-use super::loops::{mix, same_places, voices, LOOPS, ONE_PASS};
-use super::modules::{held, ENDING, LOOPED, LOOP_START, SAMPLE_BYTES, SHORT};
+use super::loops::{same_places, voices, Loop, EIGHT, FOUR, ONE_PASS, SIX, WAYS};
+use super::modules::{held, held_by, ENDING, LOOPED, LOOP_START, PERIODS, SAMPLE_BYTES, SHORT};
 use crate::say::say;
 use crate::timing::medians;
 use lampthistle::{cell, tick_numbers, State};
 use std::hint::black_box;
 
-/// The four voices' periods, and a byte in the middle of the long loop.
-const PERIODS: [u32; 4] = [428, 285, 214, 160];
 const LOWEST_PERIOD: u32 = 113;
+/// A byte in the middle of the long loop.
 const FIRST_INDEX: u32 = 300;
 
 /// A tick to mix: what it is, and the state before it.
@@ -64,8 +63,18 @@ pub fn cases() -> [Case; 6] {
     ]
 }
 
+/// A tick of so many voices in long loops.
+fn looped(name: &'static str, voices: usize) -> Case {
+    let voice = |k: usize| (LOOPED + k as u32, PERIODS[k], FIRST_INDEX);
+    let voices: Vec<Sounding> = (0..voices).map(voice).collect();
+    Case {
+        name,
+        state: state(32, &voices),
+    }
+}
+
 /// Plays the tick, and holds the second implementation and every C loop to its frames and voices; the numbers that it has.
-fn check(file: &[u8], before: &State) -> usize {
+fn check<const N: usize>(file: &[u8], before: &State, loops: &[Loop<N>]) -> usize {
     let mut after = *before;
     let mut out = vec![0; lampthistle::TICK_NUMBERS];
     let played = lampthistle::play(file, &mut after, 1, &mut out).count;
@@ -74,19 +83,20 @@ fn check(file: &[u8], before: &State) -> usize {
     let (mut cells, mut other) = (before.0, vec![1; out.len()]);
     second::play(file, &mut cells, 1, &mut other);
     assert!(other == out && cells == after.0, "both play the same");
-    for (name, mixer) in LOOPS {
-        let mut moved = voices(file, before);
+    for mixer in loops {
+        let (name, mut moved) = (mixer.name, voices(file, before));
         let mut mixed = vec![1; out.len()];
-        mix(mixer, &mut moved, &mut mixed);
+        mixer.mix(&mut moved, &mut mixed);
         assert!(mixed == out, "{name}: the same frames");
-        assert!(same_places(&moved, &voices(file, &after)), "{name}: places");
+        let there = voices::<N>(file, &after);
+        assert!(same_places(&moved, &there), "{name}: places");
     }
     out.len()
 }
 
 /// The medians of a tick in ns a frame: proved, the C loops, the second implementation.
-fn measure(file: &[u8], state: &State) -> Vec<f64> {
-    let numbers = check(file, state);
+fn measure<const N: usize>(file: &[u8], state: &State, loops: &[Loop<N>; WAYS]) -> Vec<f64> {
+    let numbers = check(file, state, loops);
     let (mut out, mut other) = (vec![0; numbers], vec![0; numbers]);
     let mut proved = || {
         let mut state = *state;
@@ -97,11 +107,11 @@ fn measure(file: &[u8], state: &State) -> Vec<f64> {
         black_box(second::play(black_box(file), &mut cells, 1, &mut other));
     };
     let before = voices(file, state);
-    let mut loops = LOOPS.map(|(_, mixer)| {
+    let mut loops = loops.map(|mixer| {
         let mut out = vec![0; numbers];
         move || {
             let mut voices = before;
-            mix(mixer, &mut voices, black_box(&mut out));
+            mixer.mix(&mut voices, black_box(&mut out));
             black_box(&voices);
         }
     });
@@ -118,18 +128,33 @@ fn measure(file: &[u8], state: &State) -> Vec<f64> {
     took.into_iter().map(|ns| ns / frames).collect()
 }
 
-pub fn print() {
-    let file = held();
-    let names = LOOPS.map(|(name, _)| name).join(" | ");
-    say("mixing one tick, ns a frame: proved is a call of play, C is mixing alone");
+fn heading<const N: usize>(loops: &[Loop<N>; WAYS]) {
+    let names = loops.map(|mixer| mixer.name).join(" | ");
     say(&format!(
         "| | proved | {names} | second | proved to the best C in one pass |"
     ));
     say("|---|---|---|---|---|---|---|---|");
-    for Case { name, state } in cases() {
-        let took = measure(&file, &state);
-        let best = took[1..=ONE_PASS].iter().copied().fold(f64::MAX, f64::min);
-        let row: String = took.iter().map(|ns| format!(" {ns:.3} |")).collect();
-        say(&format!("| {name} |{row} {:.2} |", took[0] / best));
+}
+
+fn row<const N: usize>(file: &[u8], case: &Case, loops: &[Loop<N>; WAYS]) {
+    let took = measure(file, &case.state, loops);
+    let best = took[1..=ONE_PASS].iter().copied().fold(f64::MAX, f64::min);
+    let row: String = took.iter().map(|ns| format!(" {ns:.3} |")).collect();
+    say(&format!("| {} |{row} {:.2} |", case.name, took[0] / best));
+}
+
+pub fn print() {
+    let file = held();
+    say("mixing one tick, ns a frame: proved is a call of play, C is mixing alone");
+    heading(&FOUR);
+    for case in cases() {
+        row(&file, &case, &FOUR);
     }
+    say("mixing one tick of six and of eight channels");
+    heading(&SIX);
+    let (six, eight) = (held_by(6), held_by(8));
+    row(&six, &looped("3,750 frames, six voices", 6), &SIX);
+    row(&eight, &looped("3,750 frames, eight voices", 8), &EIGHT);
+    let four = looped("the same module, four of them", 4);
+    row(&eight, &four, &EIGHT);
 }

@@ -1,4 +1,5 @@
 //! The modules that the benchmarks play.
+use crate::cases::wide;
 use second::generate::draft::Draft;
 use second::generate::Random;
 
@@ -32,7 +33,7 @@ fn large_patterns() -> Draft {
     for (place, entry) in draft.table[..64].iter_mut().enumerate() {
         *entry = place as u8;
     }
-    draft.patterns = vec![draft.patterns[0]; 64];
+    draft.patterns = vec![draft.patterns[0].clone(); 64];
     let mut random = Random::new(1);
     for cell in draft.patterns.iter_mut().flatten() {
         if random.chance(50) {
@@ -50,15 +51,18 @@ pub const LOOP_START: u32 = 100;
 const LOOP_LENGTH: u32 = 900;
 const SHORT_LOOP: u32 = 2;
 
+/// The channels' periods, of four the first.
+pub const PERIODS: [u32; 8] = [428, 285, 214, 160, 404, 269, 202, 151];
+
 /// The first of the four samples of `held` that have the long loop, the one of two words, or none.
 pub const LOOPED: u32 = 1;
 pub const SHORT: u32 = 5;
 pub const ENDING: u32 = 9;
 
-/// Four looped samples and one empty pattern.
-fn four_samples() -> Draft {
-    let mut draft = Draft::empty();
-    for number in 1..=4 {
+/// A looped sample for each channel and one empty pattern.
+fn looped_samples(channels: usize) -> Draft {
+    let mut draft = wide(channels);
+    for number in 1..=channels {
         let bytes = noise(number as u64);
         draft.add_looped(number, 64, LOOP_START, LOOP_LENGTH, &bytes);
     }
@@ -67,7 +71,7 @@ fn four_samples() -> Draft {
 
 /// Four samples of each kind and nothing to do: a state's voices sound on.
 pub fn held() -> Vec<u8> {
-    let mut draft = four_samples();
+    let mut draft = looped_samples(4);
     for (first, repeat) in [(SHORT, SHORT_LOOP), (ENDING, 0)] {
         for number in first as usize..first as usize + 4 {
             draft.add_looped(number, 64, LOOP_START, repeat, &noise(number as u64));
@@ -76,23 +80,33 @@ pub fn held() -> Vec<u8> {
     accepted(draft.bytes())
 }
 
+/// A sample in a long loop for each of so many channels, and nothing to do.
+pub fn held_by(channels: usize) -> Vec<u8> {
+    accepted(looped_samples(channels).bytes())
+}
+
 /// A note on each channel in every fourth row, arpeggios and slides between.
 pub fn busy() -> Vec<u8> {
-    repeating([0x047, 0x102, 0x202, 0x037])
+    busy_by(4)
 }
 
-/// The same without arpeggios.
+/// The same by so many channels.
+pub fn busy_by(channels: usize) -> Vec<u8> {
+    repeating(channels, [0x047, 0x102, 0x202, 0x037])
+}
+
+/// The first without arpeggios.
 pub fn sliding() -> Vec<u8> {
-    repeating([0x000, 0x102, 0x202, 0x000])
+    repeating(4, [0x000, 0x102, 0x202, 0x000])
 }
 
-/// Four looped samples and one pattern, whose rows have these effects in turn, the first of them with a note on each channel.
-fn repeating(effects: [u32; 4]) -> Vec<u8> {
-    let mut draft = four_samples();
+/// Looped samples and one pattern, whose rows have these effects in turn, the first of them with a note on each channel.
+fn repeating(channels: usize, effects: [u32; 4]) -> Vec<u8> {
+    let mut draft = looped_samples(channels);
     for row in 0..64 {
-        for channel in 0..4 {
+        for channel in 0..channels {
             let (sample, period) = match row % 4 {
-                0 => (channel as u32 + 1, [428, 285, 214, 160][channel]),
+                0 => (channel as u32 + 1, PERIODS[channel]),
                 _ => (0, 0),
             };
             draft.put(0, row, channel, sample, period, effects[row % 4]);

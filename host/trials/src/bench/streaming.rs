@@ -1,12 +1,17 @@
 //! Translation, ns a tick; the board against the player on the same module, ns a frame; and the ticks before a part, ns a tick.
-use super::modules::{busy, sliding};
+use super::modules::{busy, busy_by, sliding};
 use crate::say::say;
 use crate::timing::print_medians;
 use lampthistle::MOST_TICKS;
 use std::hint::black_box;
 
 const FRAMES: usize = 960;
-const MOST_BYTES: usize = 9 + 26 * MOST_TICKS as usize;
+
+/// Room for the most bytes that any translation of the module takes.
+fn room(file: &[u8]) -> Vec<u8> {
+    let channels = lampthistle::channels(file) as usize;
+    vec![0; 10 + (2 + 6 * channels) * MOST_TICKS as usize]
+}
 
 pub fn print() {
     let file = busy();
@@ -24,10 +29,17 @@ pub fn print() {
     for ticks in [100, 1_000, 10_000] {
         last_tick(&file, ticks);
     }
+    for channels in [6, 8] {
+        let file = busy_by(channels);
+        say(&format!("{channels} channels: translation, play_stream against play, play_stream_from the last tick"));
+        translation(&file, MOST_TICKS / 10);
+        board_and_player(&file, 100);
+        last_tick(&file, 1_000);
+    }
 }
 
 fn translation(file: &[u8], ticks: u32) {
-    let mut room = vec![0; MOST_BYTES];
+    let mut room = room(file);
     let mut other = room.clone();
     print_medians(
         "tick",
@@ -48,7 +60,7 @@ fn translation(file: &[u8], ticks: u32) {
 }
 
 fn board_and_player(file: &[u8], ticks: u32) {
-    let mut room = vec![0; MOST_BYTES];
+    let mut room = room(file);
     let bytes = lampthistle::translate(file, ticks, &mut room).count as usize;
     let stream = &room[..bytes];
     let mut board = vec![0; 2 * FRAMES * ticks as usize];
@@ -74,7 +86,7 @@ fn board_and_player(file: &[u8], ticks: u32) {
 }
 
 fn last_tick(file: &[u8], ticks: u32) {
-    let mut room = vec![0; MOST_BYTES];
+    let mut room = room(file);
     let bytes = lampthistle::translate(file, ticks, &mut room).count as usize;
     let (stream, last) = (&room[..bytes], ticks - 1);
     let mut part = vec![0; 2 * FRAMES];
