@@ -61,20 +61,7 @@ struct Tick<'a> {
 
 fn run(words: &Words) -> Result<bool, Stop> {
     let [source] = input::read_all(words.files(["FILE"])?)?;
-    let (stream, mut song, ticks) = if is_stream(&source)? {
-        if words.has("--once") {
-            return Err(Stop::Usage("--once: a stream has no places".into()));
-        }
-        if words.has("--waves") {
-            return Err(Stop::Usage("--waves: a stream has no waves".into()));
-        }
-        let ticks = ticks_asked(words, &source)?.unwrap_or(TICKS);
-        (source.bytes.clone(), None, ticks)
-    } else {
-        let ticks = ticks_asked(words, &source)?.unwrap_or(TICKS);
-        let song = Song::silent(&source.bytes);
-        (translated(&source, ticks)?, Some(song), ticks)
-    };
+    let (stream, mut song, ticks) = asked(words, &source)?;
     let channels = channels(&stream);
     let mut text = heading(words, stream.len() as u64, channels);
     let mut lengths = Lengths::of(version(&stream));
@@ -104,6 +91,23 @@ fn run(words: &Words) -> Result<bool, Stop> {
         }
     }
     say(&text).map(|()| true)
+}
+
+/// The stream to show, the song beside it where it is a module's, and how many ticks.
+fn asked(words: &Words, source: &Source) -> Result<(Vec<u8>, Option<Song<'static>>, u32), Stop> {
+    if !is_stream(source)? {
+        let ticks = ticks_asked(words, source)?.unwrap_or(TICKS);
+        let song = Song::silent(&source.bytes);
+        return Ok((translated(source, ticks)?, Some(song), ticks));
+    }
+    if words.has("--once") {
+        return Err(Stop::Usage("--once: a stream has no places".into()));
+    }
+    if words.has("--waves") {
+        return Err(Stop::Usage("--waves: a stream has no waves".into()));
+    }
+    let ticks = ticks_asked(words, source)?.unwrap_or(TICKS);
+    Ok((source.bytes.clone(), None, ticks))
 }
 
 /// Whether a file that is not accepted as a module is a stream. It is one by its length, which a stream tells, or by its name.
