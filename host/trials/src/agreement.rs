@@ -11,8 +11,8 @@ use second::generate::Random;
 /// Numbers that a buffer holds at most, apart from whole plays.
 const MOST_NUMBERS: usize = 30_000;
 /// Bytes that a record takes at most, and that stand before the first.
-const RECORD_BYTES: usize = 26;
-const START_BYTES: usize = 9;
+const RECORD_BYTES: usize = 50;
+const START_BYTES: usize = 10;
 
 /// Plays and translates `count` files from a seed on. A difference is named by its seed.
 pub fn compare(first: u64, count: u64) -> Result<Tally, String> {

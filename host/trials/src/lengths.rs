@@ -1,19 +1,20 @@
 //! Tick lengths over long runs, at one tempo and with changes in every place of a row. The player plays in calls of any number of ticks;
-//! the board plays the same ticks by version 2 and by version 1. Both implementations get buffers that take the ticks exactly, or lack one
-//! number for the last: how long they are is taken from the tempos alone, by a rule that neither of them uses.
+//! the board plays the same ticks by version 3 and, where the module has four channels, by versions 2 and 1. Both implementations get buffers
+//! that take the ticks exactly, or lack one number for the last: how long they are is taken from the tempos alone, by a rule that neither of
+//! them uses.
 use crate::answers::{same_answer, same_cells, same_state};
 use crate::files::UNEVEN;
 use crate::lent::Lent;
 use crate::runs::{over, Tally};
 use lampthistle::State;
+use second::generate::streams::older;
 use second::generate::tempos::{changing, steady};
 use second::generate::Random;
 
 /// Ticks of one call at most.
 const MOST_CALLED: u32 = 40;
-/// A stream's version byte, and the version without remainders.
-const VERSION: usize = 4;
-const DRIFTING: u8 = 1;
+/// The channels of the versions before 3.
+const OLDER_CHANNELS: u32 = 4;
 
 /// Plays `count` modules from a seed on, with both. A difference is named by its seed.
 pub fn compare(first: u64, count: u64) -> Result<Tally, String> {
@@ -33,11 +34,17 @@ fn one(seed: u64, tally: &mut Tally) -> Result<(), String> {
     let tempos: Vec<u32> = list.iter().map(|tick| tick.tempo).collect();
     let lengths = by_time(&tempos);
     play(&mut random, &file, &lengths, tally)?;
-    let mut stream = translated(&file, ticks)?;
+    let stream = translated(&file, ticks)?;
     board(&stream, &file, &lengths, tally)?;
-    stream[VERSION] = DRIFTING;
-    let old: Vec<usize> = tempos.iter().map(|&tempo| first_frames(1, tempo)).collect();
-    board(&stream, &file, &old, tally).map_err(|what| format!("version 1: {what}"))
+    if second::channels(&file) != OLDER_CHANNELS {
+        return Ok(());
+    }
+    let drifting = tempos.iter().map(|&tempo| first_frames(1, tempo)).collect();
+    for (version, lengths) in [(2, lengths), (1, drifting)] {
+        board(&older(&stream, version), &file, &lengths, tally)
+            .map_err(|what| format!("version {version}: {what}"))?;
+    }
+    Ok(())
 }
 
 fn at(seed: u64, tempo: u32) -> (Vec<u8>, u32) {

@@ -10,7 +10,7 @@ use second::generate::Random;
 use second::STATE_CELLS;
 
 /// Channels that each state is asked for, with one of any number.
-const CHANNELS: [u32; 7] = [0, 1, 2, 3, 4, 5, u32::MAX];
+const CHANNELS: [u32; 11] = [0, 1, 2, 3, 4, 5, 6, 7, 8, 9, u32::MAX];
 
 /// Asks on `count` files from a seed on, with both. A difference is named by its seed.
 pub fn compare(first: u64, count: u64) -> Result<Tally, String> {

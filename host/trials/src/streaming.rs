@@ -1,10 +1,11 @@
 //! Translation and stream play, from the first tick on and from any other: answer and every cell of room and buffer, of both
-//! implementations, on generated modules and on legal, bad and damaged streams.
+//! implementations, on generated modules and on legal, bad and damaged streams, for the module's channels and for others.
 use crate::answers::{same_answer, same_cells};
 use crate::files::file;
 use crate::lent::{length, Lent};
 use crate::runs::{over, Tally};
-use second::generate::streams::{bad_stream, damaged_stream, first_tick, legal_stream};
+use second::generate::modules::{module, Size};
+use second::generate::streams::{bad_stream, damaged_stream, first_tick, legal_stream, older};
 use second::generate::Random;
 
 /// Plays of streams from their first tick on, and from any tick.
@@ -19,10 +20,47 @@ const MOST_ROOM: usize = 300;
 /// Ticks of most translations; few go to the limit and past it.
 const MOST_TICKS: u32 = 150;
 const LIMIT: u32 = 65_535;
+/// Versions, and counts of channels that a stream may say, good ones and others.
+const VERSIONS: [u8; 6] = [0, 1, 2, 3, 4, 255];
+const COUNTS: [u8; 10] = [0, 1, 4, 5, 6, 7, 8, 9, 128, 255];
 
 /// Translates and plays streams of `count` files from a seed on, with both. A difference is named by its seed.
 pub fn compare(first: u64, count: u64) -> Result<Tally, String> {
     over(first, count, one)
+}
+
+/// Plays short streams on `count` modules from a seed on: of each version, with each count of channels or none, with too few bytes for a tick
+/// count, without a tick, and with one that has each bit of the mask.
+pub fn compare_counts(first: u64, count: u64) -> Result<Tally, String> {
+    over(first, count, |seed, tally| {
+        let mut random = Random::new(seed);
+        let file = module(seed, Size::Small);
+        for version in VERSIONS {
+            for channels in COUNTS.map(Some).into_iter().chain([None]) {
+                for stream in short_streams(version, channels) {
+                    tally[same_stream(&mut random, &stream, &file, None)? as usize] += 1;
+                }
+            }
+        }
+        Ok(())
+    })
+}
+
+fn short_streams(version: u8, channels: Option<u8>) -> Vec<Vec<u8>> {
+    let head: Vec<u8> = [version].into_iter().chain(channels).collect();
+    let with = |count: &[u8], record: &[u8]| with_length(&[&head[..], count, record].concat());
+    let mut streams = vec![with(&[0, 0, 0], &[]), with(&[0, 0, 0, 0], &[])];
+    for bit in 0..8 {
+        let record = [1 << bit, 125, 0, 64, 1, 172, 1, 0];
+        streams.push(with(&[0, 0, 0, 1], &record));
+    }
+    streams
+}
+
+/// These bytes after the count of them.
+fn with_length(following: &[u8]) -> Vec<u8> {
+    let length = following.len() as u32;
+    [&length.to_be_bytes()[..], following].concat()
 }
 
 fn one(seed: u64, tally: &mut Tally) -> Result<(), String> {
@@ -37,7 +75,7 @@ fn one(seed: u64, tally: &mut Tally) -> Result<(), String> {
     let stream = same_translation(&mut random, &file, ticks, tally)?;
     for play in 0..WHOLES + PARTS {
         let stream = any_stream(&mut random, &file, &stream);
-        let from = (play >= WHOLES).then(|| any_tick(&mut random, &stream));
+        let from = (play >= WHOLES).then(|| any_tick(&mut random, &stream, &file));
         let number = same_stream(&mut random, &stream, &file, from)?;
         tally[number as usize] += 1;
     }
@@ -73,10 +111,12 @@ pub(crate) fn any_stream(random: &mut Random, file: &[u8], translated: &[u8]) ->
     let accepted = second::judge(file).number == 0;
     let seed = random.number();
     match random.below(1_000) {
-        0 => empty_records(random),
-        1..=149 => (0..random.below(40)).map(|_| random.byte()).collect(),
+        0 => empty_records(random, file),
+        1..=49 => (0..random.below(40)).map(|_| random.byte()).collect(),
+        50..=99 => any_head(random),
+        100..=149 => legal_stream(seed, &module(seed, Size::Small)),
         150..=299 => translated.to_vec(),
-        300..=399 => by_the_old_rule(translated),
+        300..=399 if !translated.is_empty() => older(translated, random.pick(&[1, 2])),
         400..=549 => damaged_stream(seed, translated),
         550..=699 if accepted => legal_stream(seed, file),
         700..=849 if accepted => bad_stream(seed, file).bytes,
@@ -85,31 +125,40 @@ pub(crate) fn any_stream(random: &mut Random, file: &[u8], translated: &[u8]) ->
     }
 }
 
-/// The same ticks as a stream of version 1.
-fn by_the_old_rule(translated: &[u8]) -> Vec<u8> {
-    let mut stream = translated.to_vec();
-    if let Some(version) = stream.get_mut(4) {
-        *version = 1;
+/// A stream as long as it says, of a few bytes that are mostly a good version and count.
+fn any_head(random: &mut Random) -> Vec<u8> {
+    let mut following = vec![random.pick(&VERSIONS), random.pick(&COUNTS)];
+    for _ in 0..random.between(3, 14) {
+        following.push(random.pick(&[0, 0, 0, 1, 125, 255]));
     }
-    stream
+    with_length(&following)
 }
 
 /// A stream of many records without a command, at times with one more or one less than it counts.
-fn empty_records(random: &mut Random) -> Vec<u8> {
+fn empty_records(random: &mut Random, file: &[u8]) -> Vec<u8> {
     let count = random.between(100_000, 2_000_000);
     let told = count + random.pick(&[0, 0, 0, 1]) - random.pick(&[0, 0, 0, 1]);
-    let mut stream = (2 * count + 5).to_be_bytes().to_vec();
-    stream.push(random.pick(&[1, 2]));
-    stream.extend_from_slice(&told.to_be_bytes());
+    let channels = second::channels(file) as u8;
+    let mut following = match random.below(4) {
+        0 => vec![random.pick(&[1, 2])],
+        _ => vec![3, channels],
+    };
+    following.extend_from_slice(&told.to_be_bytes());
     for _ in 0..count {
-        stream.extend_from_slice(&[0, 255]);
+        following.extend_from_slice(&[0, 255]);
     }
-    stream
+    with_length(&following)
+}
+
+/// The frames of the stream's ticks on this module; none where it is refused.
+pub(crate) fn lengths(stream: &[u8], file: &[u8]) -> Vec<usize> {
+    let decoded = second::decode(stream, second::channels(file));
+    decoded.unwrap_or_default().lengths()
 }
 
 /// A tick to play from, of the stream's ticks or past them, but with few frames before it where it is to be played.
-pub(crate) fn any_tick(random: &mut Random, stream: &[u8]) -> u32 {
-    let lengths = second::decode(stream).unwrap_or_default().lengths();
+pub(crate) fn any_tick(random: &mut Random, stream: &[u8], file: &[u8]) -> u32 {
+    let lengths = lengths(stream, file);
     let ticks = lengths.len() as u32;
     let near = sums_within(&lengths, MOST_BEFORE).count() as u32;
     match first_tick(random.number(), ticks) {
@@ -119,8 +168,8 @@ pub(crate) fn any_tick(random: &mut Random, stream: &[u8]) -> u32 {
 }
 
 /// The frames of all the stream's ticks from one on, or of as many as `most` takes.
-pub(crate) fn lengths_within(stream: &[u8], from: u32, most: usize) -> usize {
-    let lengths = second::decode(stream).unwrap_or_default().lengths();
+pub(crate) fn lengths_within(stream: &[u8], file: &[u8], from: u32, most: usize) -> usize {
+    let lengths = lengths(stream, file);
     let played = lengths.get(from as usize..).unwrap_or(&[]);
     sums_within(played, most).last().unwrap_or(0)
 }
@@ -140,7 +189,7 @@ fn same_stream(
     file: &[u8],
     from: Option<u32>,
 ) -> Result<u64, String> {
-    let exact = 2 * lengths_within(stream, from.unwrap_or(0), MOST_NUMBERS / 2);
+    let exact = 2 * lengths_within(stream, file, from.unwrap_or(0), MOST_NUMBERS / 2);
     let mut ours = Lent::new(length(random, exact, MOST_NUMBERS));
     let mut other = ours.clone();
     let numbers = ours.part().len();

@@ -5,7 +5,7 @@ use trials::floats::{boards, compare, is_mono, is_side};
 #[test]
 fn calls_get_equal_answers_states_records_and_floats() {
     let tally = compare(0, 4_000).unwrap_or_else(|what| panic!("{what}"));
-    for number in [0, 14, 21, 22, 23, 24] {
+    for number in [0, 14, 21, 22, 23, 24, 28] {
         assert!(tally[number] > 100, "each answer is met often: {tally:?}");
     }
     assert!((1..=9).all(|number| tally[number] > 10), "{tally:?}");
@@ -20,12 +20,26 @@ fn player_and_board_agree_on_floats() {
 
 #[test]
 fn each_number_that_a_side_can_have_is_played_exactly() {
-    assert_eq!(each_side(), Ok(30_759));
+    for (tag, numbers) in [
+        (b"M.K.", 30_759),
+        (b"4CHN", 30_759),
+        (b"6CHN", 47_087),
+        (b"8CHN", 63_407),
+    ] {
+        assert_eq!(each_side(tag), Ok(numbers));
+    }
 }
 
 #[test]
 fn each_sum_that_a_frame_can_have_is_played_exactly() {
-    assert_eq!(each_sum(), Ok(63_407));
+    for (tag, sums) in [
+        (b"M.K.", 63_407),
+        (b"4CHN", 63_407),
+        (b"6CHN", 96_047),
+        (b"8CHN", 128_687),
+    ] {
+        assert_eq!(each_sum(tag), Ok(sums));
+    }
 }
 
 #[test]
@@ -38,7 +52,7 @@ fn each_of_the_65536_numbers_and_each_sum_is_exact_in_the_second_implementation(
         let right = (sum - sum / 2) as i16;
         assert!(is_mono(second::mono(left, right), left, right), "{sum}");
     }
-    assert!(side_numbers().iter().all(|number| number % 2 == 0));
+    assert!(side_numbers(b"M.K.").iter().all(|number| number % 2 == 0));
 }
 
 #[test]

@@ -33,6 +33,8 @@ fn any_bytes_get_an_answer() {
     let mut random = Random::new(7);
     let mut file: Vec<u8> = (0..1 << 24).map(|_| random.byte()).collect();
     assert_eq!(same(&file), Ok(2));
-    file[1080..1084].copy_from_slice(b"M.K.");
-    assert!(same(&file).is_ok());
+    for tag in [b"M.K.", b"4CHN", b"6CHN", b"8CHN"] {
+        file[1080..1084].copy_from_slice(tag);
+        assert!(same(&file).is_ok());
+    }
 }

@@ -6,6 +6,7 @@ use crate::agreement::{most_bytes, numbers_within};
 use crate::answers::same_floats;
 use crate::lent::Lent;
 use crate::runs::{over, Tally};
+use crate::streaming::lengths;
 use lampthistle::{Answer, Pair, MOST_TICKS};
 use second::generate::floats::record;
 use second::generate::Random;
@@ -100,8 +101,7 @@ fn on_board(
     let front = &mut out[..cut];
     let first = lampthistle::play_stream_floats_from(stream, file, 0, sides, front, last);
     let ticks = first.count as u32;
-    let lengths = second::decode(stream).unwrap_or_default().lengths();
-    let frames: usize = lengths.iter().take(ticks as usize).sum();
+    let frames: usize = lengths(stream, file).iter().take(ticks as usize).sum();
     let rest = &mut out[sides as usize * frames..];
     let mut both = lampthistle::play_stream_floats_from(stream, file, ticks, sides, rest, last);
     if both.count > 0 {

@@ -11,7 +11,7 @@ use crate::files::file;
 use crate::lent::{length, Lent};
 use crate::playing::{first_state, numbers_of};
 use crate::runs::{over, Tally};
-use crate::streaming::{any_stream, any_tick, lengths_within, told};
+use crate::streaming::{any_stream, any_tick, lengths, lengths_within, told};
 use lampthistle::{Answer, Pair, State};
 use second::generate::floats::{opposite, record, sides, Record};
 use second::generate::states::legal_state;
@@ -52,7 +52,7 @@ fn one(seed: u64, tally: &mut Tally) -> Result<(), String> {
     let translated = translated(&file, random.below(MOST_TICKS));
     for play in 0..WHOLES + PARTS {
         let stream = any_stream(&mut random, &file, &translated);
-        let from = (play >= WHOLES).then(|| any_tick(&mut random, &stream));
+        let from = (play >= WHOLES).then(|| any_tick(&mut random, &stream, &file));
         let number = same_stream(&mut random, &stream, &file, from)?;
         tally[number as usize] += 1;
     }
@@ -204,7 +204,7 @@ fn same_stream(
     from: Option<u32>,
 ) -> Result<u64, String> {
     let sides = asked(random);
-    let frames = lengths_within(stream, from.unwrap_or(0), MOST_FLOATS / 2);
+    let frames = lengths_within(stream, file, from.unwrap_or(0), MOST_FLOATS / 2);
     let mut ours = lent(random, sides, frames);
     let mut other = ours.clone();
     let mut held = record(random.number());
@@ -239,7 +239,7 @@ fn same_stream(
 
 /// The 16-bit numbers of the stream's ticks that were played.
 fn streamed_numbers(stream: &[u8], file: &[u8], from: Option<u32>, played: Answer) -> Vec<i16> {
-    let lengths = second::decode(stream).unwrap_or_default().lengths();
+    let lengths = lengths(stream, file);
     let ticks = lengths.iter().skip(from.unwrap_or(0) as usize);
     let frames: usize = ticks.take(played.count as usize).sum();
     let mut numbers = vec![0; 2 * frames];

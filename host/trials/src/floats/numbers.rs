@@ -1,8 +1,12 @@
-//! Every number that a side can have, and every sum of two, as the library delivers it. A side is twice the sum of two voices, and a voice
-//! gives a byte times a volume; so a side is even, and of the 65,536 numbers it has those of `side_numbers` and no other.
+//! Every number that a side can have, and every sum of two, as the library delivers it. A side is the sum of its voices, of two with four
+//! channels, which is doubled, of three with six and of four with eight; a voice gives a byte times a volume. So of the 65,536 numbers a side
+//! has those of `side_numbers` and no other.
 use super::{is_mono, is_side};
 use lampthistle::{cell, Pair, State, MONO, STEREO};
 use second::generate::draft::Draft;
+
+/// The channels on the left, from 0.
+const LEFT: [usize; 4] = [0, 3, 4, 7];
 
 /// A voice's byte and its volume.
 #[derive(Clone, Copy)]
@@ -24,81 +28,109 @@ fn voices() -> Vec<Voice> {
     voices
 }
 
-/// The numbers that a side can have, in order, and two voices that make each, by number from -32,768 on.
-struct Sides {
-    numbers: Vec<i16>,
-    voices: Vec<Option<[Voice; 2]>>,
+/// Voices that make each sum, from -32,768 on; none where as many can't.
+type Made = Vec<Option<Vec<Voice>>>;
+
+const SUMS: std::ops::RangeInclusive<i32> = -32_768..=32_767;
+
+/// A sum's place; past the end for a sum that isn't of 16 bits.
+fn place(sum: i32) -> usize {
+    sum.wrapping_sub(*SUMS.start()) as usize
 }
 
-fn place(number: i16) -> usize {
-    (i32::from(number) - i32::from(i16::MIN)) as usize
+/// What voices make, with one more of these.
+fn with_one_more(made: &Made, one: &[Voice]) -> Made {
+    let add = |sum: i32, voice: &Voice| {
+        let rest = made.get(place(sum - given(voice)))?.as_ref()?;
+        Some([&rest[..], &[*voice]].concat())
+    };
+    SUMS.map(|sum| one.iter().find_map(|voice| add(sum, voice)))
+        .collect()
+}
+
+/// The numbers that a side can have with so many channels, in order, and voices that make each.
+struct Sides {
+    channels: usize,
+    times: i32,
+    numbers: Vec<i16>,
+    made: Made,
 }
 
 impl Sides {
-    fn all() -> Sides {
+    fn all(channels: usize) -> Sides {
         let one = voices();
-        let mut voices = vec![None; 65_536];
-        for first in &one {
-            for second in &one {
-                let number = i16::try_from(2 * (given(first) + given(second)));
-                voices[place(number.expect("a side is a 16-bit number"))] = Some([*first, *second]);
-            }
+        let mut made: Made = SUMS.map(|sum| (sum == 0).then(Vec::new)).collect();
+        for _ in 0..channels / 2 {
+            made = with_one_more(&made, &one);
         }
-        let mut sides = Sides {
-            numbers: Vec::new(),
-            voices,
-        };
-        sides.numbers = (i16::MIN..=i16::MAX).filter(|&n| sides.has(n)).collect();
-        sides
+        let times = if channels == 4 { 2 } else { 1 };
+        let number = |sum| i16::try_from(times * sum).expect("a side is a 16-bit number");
+        let sums = SUMS.filter(|&sum| made[place(sum)].is_some());
+        Sides {
+            channels,
+            times,
+            numbers: sums.map(number).collect(),
+            made,
+        }
     }
 
-    fn has(&self, number: i16) -> bool {
-        self.voices[place(number)].is_some()
+    fn has(&self, number: i32) -> bool {
+        number % self.times == 0
+            && matches!(self.made.get(place(number / self.times)), Some(Some(_)))
     }
 
-    fn voices(&self, number: i16) -> [Voice; 2] {
-        self.voices[place(number)].expect("a number that a side can have")
+    fn voices(&self, number: i16) -> &[Voice] {
+        let made = self.made[place(i32::from(number) / self.times)].as_ref();
+        made.expect("a number that a side can have")
     }
 
-    /// A left and a right for each sum that two can have. All sides are even, so all sums are.
+    /// A left and a right for each sum that two can have.
     fn sums(&self) -> Vec<(i16, i16)> {
-        let sums = (-65_536..=65_534).step_by(2);
+        let [least, most] = [self.numbers.first(), self.numbers.last()]
+            .map(|number| i32::from(*number.expect("0 is one of them")));
+        let sums = (2 * least..=2 * most).step_by(self.times as usize);
         let split = |sum: i32| {
             self.numbers.iter().find_map(|&left| {
                 let right = i16::try_from(sum - i32::from(left)).ok()?;
-                self.has(right).then_some((left, right))
+                self.has(right.into()).then_some((left, right))
             })
         };
         sums.filter_map(split).collect()
     }
 }
 
-/// The numbers that a side can have, in order.
-pub fn side_numbers() -> Vec<i16> {
-    Sides::all().numbers
+/// The numbers that a side can have in a module of this tag, in order.
+pub fn side_numbers(tag: &[u8; 4]) -> Vec<i16> {
+    all(tag).0.numbers
 }
 
-/// The index of a byte in the sample, whose first two read 0.
+/// The index of the sample's first byte that is read; the two before it read 0.
 const FIRST_BYTE: u32 = 2;
 
-/// A sample of all bytes, and nothing to do.
-fn all_bytes() -> Vec<u8> {
-    let mut draft = Draft::empty();
+/// What sides can have, and a module with a sample of all bytes and nothing to do.
+fn all(tag: &[u8; 4]) -> (Sides, Vec<u8>) {
+    let mut draft = Draft::tagged(tag);
     let bytes: Vec<u8> = [0; FIRST_BYTE as usize]
         .into_iter()
         .chain(0..=255)
         .collect();
     draft.add_looped(1, 64, 0, 0, &bytes);
-    draft.bytes()
+    (Sides::all(draft.channels()), draft.bytes())
 }
 
 /// A state in the middle of a row whose next frame has these numbers.
 fn state(sides: &Sides, left: i16, right: i16) -> State {
-    let ([first, fourth], [second, third]) = (sides.voices(left), sides.voices(right));
+    let (mut left, mut right) = (sides.voices(left).iter(), sides.voices(right).iter());
     let mut state = lampthistle::fresh();
     state.0[cell::TICK] = 1;
     state.0[cell::TEMPO] = 255;
-    for (channel, voice) in [first, second, third, fourth].into_iter().enumerate() {
+    for channel in 0..sides.channels {
+        let side = if LEFT.contains(&channel) {
+            &mut left
+        } else {
+            &mut right
+        };
+        let voice = side.next().expect("half of the channels are on a side");
         let own = &mut state.0[cell::channel(channel)..];
         own[cell::VOLUME] = voice.volume;
         own[cell::PERIOD] = 856;
@@ -121,9 +153,9 @@ fn first_frame(file: &[u8], state: &State, sides: u32) -> Result<Vec<f32>, Strin
     }
 }
 
-/// Plays every number that a side can have, on both sides; gives how many there are.
-pub fn each_side() -> Result<usize, String> {
-    let (sides, file) = (Sides::all(), all_bytes());
+/// Plays every number that a side of a module of this tag can have, on both sides; gives how many there are.
+pub fn each_side(tag: &[u8; 4]) -> Result<usize, String> {
+    let (sides, file) = all(tag);
     for (left, right) in sides.numbers.iter().zip(sides.numbers.iter().rev()) {
         let state = state(&sides, *left, *right);
         has_numbers(&file, &state, *left, *right)?;
@@ -135,9 +167,9 @@ pub fn each_side() -> Result<usize, String> {
     Ok(sides.numbers.len())
 }
 
-/// Plays every sum that a left and a right can have, as mono; gives how many there are.
-pub fn each_sum() -> Result<usize, String> {
-    let (sides, file) = (Sides::all(), all_bytes());
+/// Plays every sum that a left and a right of such a module can have, as mono; gives how many there are.
+pub fn each_sum(tag: &[u8; 4]) -> Result<usize, String> {
+    let (sides, file) = all(tag);
     let sums = sides.sums();
     for (left, right) in &sums {
         let state = state(&sides, *left, *right);
