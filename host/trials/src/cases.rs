@@ -6,23 +6,11 @@ pub type Case = (&'static str, Vec<u8>);
 
 /// A module of so many channels, 4, 6 or 8: one empty pattern, no samples.
 pub fn wide(channels: usize) -> Draft {
-    let mut draft = Draft::empty();
-    draft.channels = channels;
-    draft.tag = *match channels {
+    Draft::tagged(match channels {
         6 => b"6CHN",
         8 => b"8CHN",
         _ => b"M.K.",
-    };
-    draft
-}
-
-/// How many channels a good file has, by its tag.
-pub fn channels(file: &[u8]) -> usize {
-    match &file[1080..1084] {
-        b"6CHN" => 6,
-        b"8CHN" => 8,
-        _ => 4,
-    }
+    })
 }
 
 /// 2,108 good bytes: one pattern, no samples.

@@ -5,7 +5,7 @@
 //!
 //! with position, row and tick in the row before the tick, and tempo and the voices of the module's channels as the tick leaves them in
 //! the state. The checksum goes over the tick's numbers in their order, from h = 0: h = (h * 31 + number mod 65,536) mod 65,521.
-use crate::cases::{channels, wide, Case};
+use crate::cases::{wide, Case};
 use lampthistle::cell;
 use second::generate::draft::Draft;
 use second::generate::Random;
@@ -317,7 +317,7 @@ pub fn play_lines() -> String {
 fn tick_line(text: &mut String, file: &[u8], cells: &mut [u32; second::STATE_CELLS]) {
     let trace = second::trace_tick(file, cells).expect("a stored module is accepted");
     let mut numbers = vec![trace.position, trace.row, trace.tick, cells[cell::TEMPO]];
-    for channel in 0..channels(file) {
+    for channel in 0..second::channels(file) as usize {
         let voice = cell::channel(channel) + cell::VOICE_SAMPLE;
         numbers.extend_from_slice(&cells[voice..voice + VOICE_CELLS]);
     }
