@@ -41,11 +41,11 @@ fn tell_place(song: Song) {
 }
 
 fn tell_voice(v: Voice) {
-    tell(v.sample);
-    tell(v.period);
-    tell(v.volume);
+    tell(v.sample as u32);
+    tell(v.period as u32);
+    tell(v.volume as u32);
     tell(v.index);
-    tell(v.fraction);
+    tell(v.fraction as u32);
     tell(v.stopped as u32);
 }
 

@@ -8,12 +8,13 @@ use native.Mathlib.Numerals.{add-one}
 use native.Mathlib.Omega.{arith}
 use lib.ListN.{length, getD, set, take, drop, length-append, drop-of-length-le}
 use lib.Seq.{drop-cons, take-all, take-at, length-take-le, sets, sets-eq, length-sets}
+use Rattle.laws.specs.Positions.{sets-append}
 use Rattle.common.specs.Limits.{width}
 use Rattle.effects.specs.declared.Channel.{Channel}
 use Rattle.sequencer.specs.declared.Song.{Song}
 use Rattle.voice.specs.declared.Voice.{Voice}
 use Rattle.player.specs.declared.State.{State}
-use Rattle.cells.specs.Cells.{songCellCount, channelCellCount, cellCount, channelPlace, songCells, cellsAt, joined, stateCells}
+use Rattle.cells.specs.Cells.{songCellCount, ownCellCount, channelCellCount, cellCount, channelPlace, songCells, ownCells, voiceCells, channelCells, cellsAt, joined, stateCells}
 
 -- ---- a run
 -- what is written, with what is left of the run, is the whole
@@ -35,6 +36,10 @@ module _ (run : List ℕ) (at : ℕ) (cells₀ : List ℕ) where
     put-end h = rw (drop-of-length-le run {i = i} h) at (w .whole)
 
 pub ruleset puts = (put-begin, put-more, put-end)
+
+-- ---- a channel's own cells, then its voice's
+pub put-both : (c : Channel) (v : Voice) (at : ℕ) (cells own both : List ℕ) → own ≡ sets cells at (ownCells c) → both ≡ sets own (at + ownCellCount) (voiceCells v) → both ≡ sets cells at (channelCells c v)
+put-both c v at cells own both e q = rw (sets-append cells at (ownCells c) (voiceCells v), ← e) q
 
 -- ---- channel after channel
 take-sets : (xs l : List ℕ) (at : ℕ) → at + length xs ≤ length l → take (at + length xs) (sets l at xs) ≡ take at l ++ xs

@@ -1,13 +1,13 @@
 -- A state as cells, plain numbers at the C boundary: a song's, then each channel's, its own and its voice's.
 -- Assumes nothing.
 use Prim.Native.Nat.{ℕ, zero, suc, _+_, _*_, min}
-use mathlib.Core.Bool.{cond}
+use mathlib.Core.Bool.{Bool, cond, _||_}
 use mathlib.Core.List.{List, [], _∷_, _++_}
 use lib.ListN.{getD}
 use lib.Dec.{eqb, ltb}
 use Rattle.laws.specs.Ranges.{each}
 use Rattle.common.specs.Bytes.{bit}
-use Rattle.common.specs.Limits.{width, lastByte, sampleNumbers}
+use Rattle.common.specs.Limits.{width, lastByte, lastWord, sampleNumbers}
 use Rattle.motion.specs.declared.Wave.{Wave}
 use Rattle.effects.specs.declared.Channel.{Channel}
 use Rattle.effects.specs.Legal.{freshChannel}
@@ -101,46 +101,50 @@ unfoldable pub stateCells : State → List ℕ
 stateCells s = songCells (s .song) (s .remainder) ++ joined (cellsAt (s .song .channels) (s .voices)) width
 
 -- ---- from cells
--- a wave's number is a byte; a larger cell gives 255, which no legal wave has
-unfoldable pub waveNumber : ℕ → ℕ
-waveNumber n = min n lastByte
+-- a number that is kept as a byte; a larger cell gives 255, which no legal sample, volume or wave has
+unfoldable pub byteNumber : ℕ → ℕ
+byteNumber n = min n lastByte
+
+-- a number that is kept in two bytes; a larger cell gives 65,535, which no legal period is
+unfoldable pub wordNumber : ℕ → ℕ
+wordNumber n = min n lastWord
+
+-- a sample's number; where a number beside it is none that can be kept, one that no legal state has
+unfoldable pub sampleUnless : Bool → ℕ → ℕ
+sampleUnless lost n = cond lost sampleNumbers (byteNumber n)
 
 -- a wave, from a place on
 abbrev pub waveOf : List ℕ → ℕ → Wave
 waveOf l at =
     record {
-      x = waveNumber (getD l at 0);
-      y = waveNumber (getD l (at + 1) 0);
-      place = waveNumber (getD l (at + 2) 0);
-      form = waveNumber (getD l (at + 3) 0);
+      x = byteNumber (getD l at 0);
+      y = byteNumber (getD l (at + 1) 0);
+      place = byteNumber (getD l (at + 2) 0);
+      form = byteNumber (getD l (at + 3) 0);
     }
 
--- a channel's own numbers, from a place on
+-- a channel's own numbers, from a place on; every byte is a legal memory
 abbrev pub channelOf : List ℕ → ℕ → Channel
 channelOf l at =
     record {
-      latched = getD l at 0;
-      volume = getD l (at + 1) 0;
-      period = getD l (at + 2) 0;
-      target = getD l (at + 3) 0;
-      memory = getD l (at + 4) 0;
+      latched = sampleUnless (ltb lastByte (getD l (at + 4) 0)) (getD l at 0);
+      volume = byteNumber (getD l (at + 1) 0);
+      period = wordNumber (getD l (at + 2) 0);
+      target = wordNumber (getD l (at + 3) 0);
+      memory = byteNumber (getD l (at + 4) 0);
       vibrato = waveOf l (at + plainCellCount);
       tremolo = waveOf l (at + plainCellCount + waveCellCount);
     }
 
--- a voice's sample; a flag above 1 is no flag, and gives a sample number that no legal state has
-unfoldable pub sampleBy : ℕ → ℕ → ℕ
-sampleBy flag sample = cond (ltb 1 flag) sampleNumbers sample
-
--- a voice, from a place on
+-- a voice, from a place on; a flag above 1 is no flag, and every number of two bytes is a legal fraction
 abbrev pub voiceOf : List ℕ → ℕ → Voice
 voiceOf l at =
     record {
-      sample = sampleBy (getD l (at + 5) 0) (getD l at 0);
-      period = getD l (at + 1) 0;
-      volume = getD l (at + 2) 0;
+      sample = sampleUnless (ltb 1 (getD l (at + 5) 0) || ltb lastWord (getD l (at + 4) 0)) (getD l at 0);
+      period = wordNumber (getD l (at + 1) 0);
+      volume = byteNumber (getD l (at + 2) 0);
       index = getD l (at + 3) 0;
-      fraction = getD l (at + 4) 0;
+      fraction = wordNumber (getD l (at + 4) 0);
       stopped = eqb (getD l (at + 5) 0) 1;
     }
 

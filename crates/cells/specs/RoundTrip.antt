@@ -1,8 +1,9 @@
--- Cells and states say the same: every state whose waves are bytes is the state of its cells, and cells whose flags are 0 or 1 and whose waves are
--- bytes are the cells of their state.
+-- Cells and states say the same: every state whose numbers fit their fields is the state of its cells (`state-cells`), and cells whose numbers fit
+-- them are the cells of their state (`cells-state`).
 -- Assumes nothing.
 use Prim.Native.Nat.{ℕ, zero, suc, _+_, _*_, _≤_, _<_}
 use mathlib.Core.Path.{_≡_, refl, sym, ap, ap₂, subst, _∙_}
+use mathlib.Core.Bool.{false}
 use mathlib.Core.List.{List, _++_}
 use native.Mathlib.Nat.{add-zero}
 use native.Mathlib.Omega.{arith}
@@ -13,34 +14,66 @@ use borrow.Author.Tests.{le-ltb}
 use Rattle.laws.specs.Each.{each-by, getD-each}
 use Rattle.laws.specs.Positions.{at-offset, at-position, drop-past}
 use Rattle.common.specs.Bytes.{bit}
-use Rattle.common.specs.Limits.{width, lastByte}
+use Rattle.common.specs.Limits.{width, lastByte, lastWord}
 use Rattle.motion.specs.declared.Wave.{Wave}
 use Rattle.effects.specs.declared.Channel.{Channel}
 use Rattle.effects.specs.Legal.{freshChannel}
+use Rattle.effects.specs.Small.{SmallChannel}
 use Rattle.voice.specs.declared.Voice.{Voice}
 use Rattle.voice.specs.Frames.{blank}
 use Rattle.player.specs.declared.State.{State}
-use Rattle.cells.specs.Cells.{songCellCount, plainCellCount, waveCellCount, ownCellCount, voiceCellCount, channelCellCount, cellCount, channelPlace, songCells, plainCells, waveCells, ownCells, voiceCells, cellsAt, stateCells, waveNumber, waveOf, channelOf, sampleBy, voiceOf, remainderPlace, songOf, stateOf}
+use Rattle.cells.specs.Cells.{songCellCount, plainCellCount, waveCellCount, ownCellCount, voiceCellCount, channelCellCount, cellCount, channelPlace, songCells, plainCells, waveCells, ownCells, voiceCells, cellsAt, stateCells, byteNumber, wordNumber, sampleUnless, waveOf, channelOf, voiceOf, remainderPlace, songOf, stateOf}
 use Rattle.cells.specs.Joined.{partAt, joined-parts, joined-at}
 use Rattle.laws.specs.Ranges.{each}
 use Rattle.common.specs.ByteLaws.{bit-back, bit-most}
 
--- a byte is a wave's number
-number-stays : (n : ℕ) → n ≤ lastByte → waveNumber n ≡ n
-unfolding waveNumber
-number-stays n h = omega arith
+-- a number that fits is kept
+byte-stays : (n : ℕ) → n ≤ lastByte → byteNumber n ≡ n
+unfolding byteNumber
+byte-stays n h = omega arith
 
--- a wave's numbers are bytes
+word-stays : (n : ℕ) → n ≤ lastWord → wordNumber n ≡ n
+unfolding wordNumber
+word-stays n h = omega arith
+
+sample-stays : (n : ℕ) → n ≤ lastByte → sampleUnless false n ≡ n
+unfolding sampleUnless
+sample-stays n h = byte-stays n h
+
+-- ---- numbers that fit
 pub record WaveBytes (w : Wave) : Type 0 where
   pub x : w .x ≤ lastByte
   pub y : w .y ≤ lastByte
   pub place : w .place ≤ lastByte
   pub form : w .form ≤ lastByte
 
--- so are those of both waves of a channel
-pub record ChannelBytes (c : Channel) : Type 0 where
+pub record KeptChannel (c : Channel) : Type 0 where
+  pub numbers : SmallChannel c
   pub vibrato : WaveBytes (c .vibrato)
   pub tremolo : WaveBytes (c .tremolo)
+
+pub record KeptVoice (v : Voice) : Type 0 where
+  pub sample : v .sample ≤ lastByte
+  pub period : v .period ≤ lastWord
+  pub volume : v .volume ≤ lastByte
+  pub fraction : v .fraction ≤ lastWord
+
+-- a voice's cells, and a channel's, from its place on
+pub record KeptVoiceCells (l : List ℕ) (at : ℕ) : Type 0 where
+  pub sample : getD l at 0 ≤ lastByte
+  pub period : getD l (at + 1) 0 ≤ lastWord
+  pub volume : getD l (at + 2) 0 ≤ lastByte
+  pub fraction : getD l (at + 4) 0 ≤ lastWord
+  pub flag : getD l (at + 5) 0 ≤ 1
+
+pub record KeptCells (l : List ℕ) (at : ℕ) : Type 0 where
+  pub latched : getD l at 0 ≤ lastByte
+  pub volume : getD l (at + 1) 0 ≤ lastByte
+  pub period : getD l (at + 2) 0 ≤ lastWord
+  pub target : getD l (at + 3) 0 ≤ lastWord
+  pub memory : getD l (at + 4) 0 ≤ lastByte
+  pub waves : (j : ℕ) → j < waveCellCount + waveCellCount → getD l (at + plainCellCount + j) 0 ≤ lastByte
+  pub voice : KeptVoiceCells l (at + ownCellCount)
 
 -- ---- a channel's cells, read
 wave-back : (l : List ℕ) (at : ℕ) (w : Wave) (rest : List ℕ) → WaveBytes w → drop at l ≡ waveCells w ++ rest → waveOf l at ≡ w
@@ -48,22 +81,41 @@ wave-back l at w rest b e =
     simp (
       at-position l at _ e,
       at-offset l at _ e,
-      number-stays (w .x) (b .x),
-      number-stays (w .y) (b .y),
-      number-stays (w .place) (b .place),
-      number-stays (w .form) (b .form),
+      byte-stays (w .x) (b .x),
+      byte-stays (w .y) (b .y),
+      byte-stays (w .place) (b .place),
+      byte-stays (w .form) (b .form),
     )
 
-channel-back : (l : List ℕ) (at : ℕ) (c : Channel) (rest : List ℕ) → ChannelBytes c → drop at l ≡ ownCells c ++ rest → channelOf l at ≡ c
+channel-back : (l : List ℕ) (at : ℕ) (c : Channel) (rest : List ℕ) → KeptChannel c → drop at l ≡ ownCells c ++ rest → channelOf l at ≡ c
 channel-back l at c rest b e =
     let vibrato = drop-past l at (plainCells c) _ e in
     let tremolo = drop-past l (at + plainCellCount) (waveCells (c .vibrato)) _ vibrato in
     rw (wave-back l (at + plainCellCount) (c .vibrato) _ (b .vibrato) vibrato, wave-back l (at + plainCellCount + waveCellCount) (c .tremolo) _ (b .tremolo) tremolo)
-    (simp (at-position l at _ e, at-offset l at _ e))
+    (simp (
+      at-position l at _ e,
+      at-offset l at _ e,
+      le-ltb lastByte (c .memory) (b .numbers .memory),
+      sample-stays (c .latched) (b .numbers .latched),
+      byte-stays (c .volume) (b .numbers .volume),
+      word-stays (c .period) (b .numbers .period),
+      word-stays (c .target) (b .numbers .target),
+      byte-stays (c .memory) (b .numbers .memory),
+    ))
 
-voice-back : (l : List ℕ) (at : ℕ) (v : Voice) (rest : List ℕ) → drop at l ≡ voiceCells v ++ rest → voiceOf l at ≡ v
-unfolding sampleBy
-voice-back l at v rest e = simp (at-position l at _ e, at-offset l at _ e, bit-back, le-ltb 1 (bit (v .stopped)) (bit-most (v .stopped)))
+voice-back : (l : List ℕ) (at : ℕ) (v : Voice) (rest : List ℕ) → KeptVoice v → drop at l ≡ voiceCells v ++ rest → voiceOf l at ≡ v
+voice-back l at v rest b e =
+    simp (
+      at-position l at _ e,
+      at-offset l at _ e,
+      bit-back,
+      le-ltb 1 (bit (v .stopped)) (bit-most (v .stopped)),
+      le-ltb lastWord (v .fraction) (b .fraction),
+      sample-stays (v .sample) (b .sample),
+      word-stays (v .period) (b .period),
+      byte-stays (v .volume) (b .volume),
+      word-stays (v .fraction) (b .fraction),
+    )
 
 -- ---- a state's cells, read
 module _ (s : State) where
@@ -83,20 +135,20 @@ module _ (s : State) where
   channel-there i h =
       sym (take-append-drop channelCellCount (drop (channelPlace i) l)) ∙ ap (λ (xs : List ℕ). xs ++ drop channelCellCount (drop (channelPlace i) l)) (part-there i h)
 
-  channels-back : length (s .song .channels) ≡ width → ((i : ℕ) → i < width → ChannelBytes (getD (s .song .channels) i freshChannel)) → each (λ i. channelOf l (channelPlace i)) width ≡ s .song .channels
+  channels-back : length (s .song .channels) ≡ width → ((i : ℕ) → i < width → KeptChannel (getD (s .song .channels) i freshChannel)) → each (λ i. channelOf l (channelPlace i)) width ≡ s .song .channels
   channels-back h b =
       sym (each-by _ width freshChannel (s .song .channels) h (λ i k. sym (channel-back l (channelPlace i) _ _ (b i k) (channel-there i k))))
 
-  voices-back : length (s .voices) ≡ width → each (λ i. voiceOf l (channelPlace i + ownCellCount)) width ≡ s .voices
-  voices-back h =
+  voices-back : length (s .voices) ≡ width → ((i : ℕ) → i < width → KeptVoice (getD (s .voices) i blank)) → each (λ i. voiceOf l (channelPlace i + ownCellCount)) width ≡ s .voices
+  voices-back h b =
       sym
       (each-by _ width blank (s .voices) h
-      (λ i k. sym (voice-back l (channelPlace i + ownCellCount) _ _ (drop-past l (channelPlace i) (ownCells (getD (s .song .channels) i freshChannel)) _ (channel-there i k)))))
+      (λ i k. sym (voice-back l (channelPlace i + ownCellCount) _ _ (b i k) (drop-past l (channelPlace i) (ownCells (getD (s .song .channels) i freshChannel)) _ (channel-there i k)))))
 
   -- the state of a state's cells is the state
-  pub state-cells : length (s .song .channels) ≡ width → ((i : ℕ) → i < width → ChannelBytes (getD (s .song .channels) i freshChannel)) → length (s .voices) ≡ width → stateOf (stateCells s) ≡ s
+  pub state-cells : length (s .song .channels) ≡ width → ((i : ℕ) → i < width → KeptChannel (getD (s .song .channels) i freshChannel)) → length (s .voices) ≡ width → ((i : ℕ) → i < width → KeptVoice (getD (s .voices) i blank)) → stateOf (stateCells s) ≡ s
   unfolding stateOf stateCells
-  state-cells h b k = rw (channels-back h b, voices-back k)
+  state-cells h b k d = rw (channels-back h b, voices-back k d)
 
 -- ---- cells, written again
 -- n cells from a place on
@@ -125,40 +177,59 @@ wave-again l at h b =
     rw (
       part-is l at waveCellCount h,
       add-zero,
-      number-stays (getD l at 0) first,
-      number-stays (getD l (at + 1) 0) (b 1 (omega arith)),
-      number-stays (getD l (at + 2) 0) (b 2 (omega arith)),
-      number-stays (getD l (at + 3) 0) (b 3 (omega arith)),
+      byte-stays (getD l at 0) first,
+      byte-stays (getD l (at + 1) 0) (b 1 (omega arith)),
+      byte-stays (getD l (at + 2) 0) (b 2 (omega arith)),
+      byte-stays (getD l (at + 3) 0) (b 3 (omega arith)),
     )
 
-plain-again : (l : List ℕ) (at : ℕ) → at + plainCellCount ≤ length l → plainCells (channelOf l at) ≡ take plainCellCount (drop at l)
+plain-again : (l : List ℕ) (at : ℕ) → at + plainCellCount ≤ length l → KeptCells l at → plainCells (channelOf l at) ≡ take plainCellCount (drop at l)
 unfolding each
-plain-again l at h = rw (part-is l at plainCellCount h, add-zero)
+plain-again l at h k =
+    rw (
+      part-is l at plainCellCount h,
+      add-zero,
+      le-ltb lastByte (getD l (at + 4) 0) (k .memory),
+      sample-stays (getD l at 0) (k .latched),
+      byte-stays (getD l (at + 1) 0) (k .volume),
+      word-stays (getD l (at + 2) 0) (k .period),
+      word-stays (getD l (at + 3) 0) (k .target),
+      byte-stays (getD l (at + 4) 0) (k .memory),
+    )
 
-channel-again : (l : List ℕ) (at : ℕ) → at + ownCellCount ≤ length l → BytesFrom l (at + plainCellCount) → BytesFrom l (at + plainCellCount + waveCellCount) → ownCells (channelOf l at) ≡ take ownCellCount (drop at l)
-channel-again l at h vibrato tremolo =
+channel-again : (l : List ℕ) (at : ℕ) → at + ownCellCount ≤ length l → KeptCells l at → ownCells (channelOf l at) ≡ take ownCellCount (drop at l)
+channel-again l at h k =
     rw (
       take-add plainCellCount (waveCellCount + waveCellCount) (drop at l),
       drop-drop plainCellCount at l,
       take-add waveCellCount waveCellCount (drop (at + plainCellCount) l),
       drop-drop waveCellCount (at + plainCellCount) l,
     )
-    (ap₂ _++_ (plain-again l at (omega arith))
+    (ap₂ _++_ (plain-again l at (omega arith) k)
     (ap₂ _++_ (wave-again l (at + plainCellCount) (omega arith) vibrato) (wave-again l (at + plainCellCount + waveCellCount) (omega arith) tremolo)))
+  where
+    vibrato : BytesFrom l (at + plainCellCount)
+    vibrato j m = k .waves j (omega arith)
 
-voice-again : (l : List ℕ) (at : ℕ) → at + voiceCellCount ≤ length l → getD l (at + 5) 0 ≤ 1 → voiceCells (voiceOf l at) ≡ take voiceCellCount (drop at l)
-unfolding each sampleBy
-voice-again l at h f = rw (part-is l at voiceCellCount h, add-zero, flag-cell (getD l (at + 5) 0) f, le-ltb 1 (getD l (at + 5) 0) f)
+    tremolo : BytesFrom l (at + plainCellCount + waveCellCount)
+    tremolo j m = subst (λ (n : ℕ). getD l n 0 ≤ lastByte) (omega arith) (k .waves (waveCellCount + j) (omega arith))
 
--- where channel i's flag stands
-abbrev pub flagPlace : ℕ → ℕ
-flagPlace i = channelPlace i + ownCellCount + 5
+voice-again : (l : List ℕ) (at : ℕ) → at + voiceCellCount ≤ length l → KeptVoiceCells l at → voiceCells (voiceOf l at) ≡ take voiceCellCount (drop at l)
+unfolding each
+voice-again l at h k =
+    rw (
+      part-is l at voiceCellCount h,
+      add-zero,
+      flag-cell (getD l (at + 5) 0) (k .flag),
+      le-ltb 1 (getD l (at + 5) 0) (k .flag),
+      le-ltb lastWord (getD l (at + 4) 0) (k .fraction),
+      sample-stays (getD l at 0) (k .sample),
+      word-stays (getD l (at + 1) 0) (k .period),
+      byte-stays (getD l (at + 2) 0) (k .volume),
+      word-stays (getD l (at + 4) 0) (k .fraction),
+    )
 
--- and where its waves do, vibrato first
-abbrev pub wavesPlace : ℕ → ℕ
-wavesPlace i = channelPlace i + plainCellCount
-
-module _ (l : List ℕ) (long : length l ≡ cellCount) (flags : (i : ℕ) → i < width → getD l (flagPlace i) 0 ≤ 1) (waves : (i j : ℕ) → i < width → j < waveCellCount + waveCellCount → getD l (wavesPlace i + j) 0 ≤ lastByte) where
+module _ (l : List ℕ) (long : length l ≡ cellCount) (kept : (i : ℕ) → i < width → KeptCells l (channelPlace i)) where
   channel-cells : (i : ℕ) → i < width → cellsAt (stateOf l .song .channels) (stateOf l .voices) i ≡ partAt channelCellCount (drop songCellCount l) i
   unfolding stateOf
   channel-cells i h =
@@ -169,7 +240,7 @@ module _ (l : List ℕ) (long : length l ≡ cellCount) (flags : (i : ℕ) → i
         take-add ownCellCount voiceCellCount (drop (channelPlace i) l),
         drop-drop ownCellCount (channelPlace i) l,
       )
-      (ap₂ _++_ (channel-again l (channelPlace i) (omega arith) (λ j k. waves i j h (omega arith)) (λ j k. subst (λ (n : ℕ). getD l n 0 ≤ lastByte) (omega arith) (waves i (waveCellCount + j) h (omega arith)))) (voice-again l (channelPlace i + ownCellCount) (omega arith) (flags i h)))
+      (ap₂ _++_ (channel-again l (channelPlace i) (omega arith) (kept i h)) (voice-again l (channelPlace i + ownCellCount) (omega arith) (kept i h .voice)))
 
   -- they are the cells of their state
   pub cells-state : stateCells (stateOf l) ≡ l

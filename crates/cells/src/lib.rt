@@ -5,8 +5,9 @@ ghost use lib.ListN.{length};
 ghost use lib.Seq.{sets};
 ghost use Rattle.laws.specs.Ranges.{each};
 ghost use Rattle.common.specs.Limits.{width};
-ghost use Rattle.cells.specs.Cells.{waveCellCount, ownCellCount, voiceCellCount, channelCellCount, cellCount, channelPlace, songCells, channelCells, stateCells, waveNumber, waveOf, channelOf, sampleBy, voiceOf, songOf, stateOf};
+ghost use Rattle.cells.specs.Cells.{waveCellCount, ownCellCount, voiceCellCount, channelCellCount, cellCount, channelPlace, songCells, ownCells, voiceCells, channelCells, stateCells, byteNumber, wordNumber, sampleUnless, waveOf, channelOf, voiceOf, songOf, stateOf};
 use common::limits::LAST_BYTE;
+use common::limits::LAST_WORD;
 use common::limits::SAMPLE_NUMBERS;
 use common::limits::WIDTH;
 use effects::Channel;
@@ -40,7 +41,7 @@ pub const CELLS: usize = SONG_CELLS + CHANNEL_CELLS * WIDTH;
 const REMAINDER: usize = 10;
 
 // A sample number that no legal state has.
-const NO_SAMPLE: u32 = SAMPLE_NUMBERS as u32;
+const NO_SAMPLE: u8 = SAMPLE_NUMBERS as u8;
 
 // Writes a run of cells from a place on.
 fn put(run: &[u32], at: usize, cells: &mut [u32; CELLS])
@@ -75,18 +76,18 @@ fn put_song(song: Song, remainder: u32, cells: &mut [u32; CELLS])
     put(&run, 0, cells);
 }
 
-fn put_channel(channel: Channel, voice: Voice, at: usize, cells: &mut [u32; CELLS])
-    requires { ⌜ at + channelCellCount ≤ cellCount ⌝ }
-    ensures { λ _. ⌜ now (cells .exit) ≡ sets (now (cells .entry)) at (channelCells channel voice) ⌝ }
+fn put_own(channel: Channel, at: usize, cells: &mut [u32; CELLS])
+    requires { ⌜ at + ownCellCount ≤ cellCount ⌝ }
+    ensures { λ _. ⌜ now (cells .exit) ≡ sets (now (cells .entry)) at (ownCells channel) ⌝ }
 {
     let vibrato = channel.vibrato;
     let tremolo = channel.tremolo;
     let run = [
-        channel.latched,
-        channel.volume,
-        channel.period,
-        channel.target,
-        channel.memory,
+        channel.latched as u32,
+        channel.volume as u32,
+        channel.period as u32,
+        channel.target as u32,
+        channel.memory as u32,
         vibrato.x as u32,
         vibrato.y as u32,
         vibrato.place as u32,
@@ -95,14 +96,31 @@ fn put_channel(channel: Channel, voice: Voice, at: usize, cells: &mut [u32; CELL
         tremolo.y as u32,
         tremolo.place as u32,
         tremolo.form as u32,
-        voice.sample,
-        voice.period,
-        voice.volume,
+    ];
+    put(&run, at, cells);
+}
+
+fn put_voice(voice: Voice, at: usize, cells: &mut [u32; CELLS])
+    requires { ⌜ at + voiceCellCount ≤ cellCount ⌝ }
+    ensures { λ _. ⌜ now (cells .exit) ≡ sets (now (cells .entry)) at (voiceCells voice) ⌝ }
+{
+    let run = [
+        voice.sample as u32,
+        voice.period as u32,
+        voice.volume as u32,
         voice.index,
-        voice.fraction,
+        voice.fraction as u32,
         voice.stopped as u32,
     ];
     put(&run, at, cells);
+}
+
+fn put_channel(channel: Channel, voice: Voice, at: usize, cells: &mut [u32; CELLS])
+    requires { ⌜ at + channelCellCount ≤ cellCount ⌝ }
+    ensures { λ _. ⌜ now (cells .exit) ≡ sets (now (cells .entry)) at (channelCells channel voice) ⌝ }
+{
+    put_own(channel, at, cells);
+    put_voice(voice, at + OWN_CELLS, cells);
 }
 
 // The cells of a state.
@@ -125,9 +143,9 @@ pub fn cells_of(state: State) -> [u32; CELLS]
     cells
 }
 
-// A wave's number is a byte: a larger cell gives 255, which no legal wave has.
-fn wave_number(cell: u32) -> u8
-    ensures { λ r. ⌜ r ≡ waveNumber cell ⌝ }
+// A number that is kept as a byte: a larger cell gives 255, which no legal sample, volume or wave has.
+fn byte_number(cell: u32) -> u8
+    ensures { λ r. ⌜ r ≡ byteNumber cell ⌝ }
 {
     if cell < LAST_BYTE {
         cell as u8
@@ -136,16 +154,37 @@ fn wave_number(cell: u32) -> u8
     }
 }
 
+// A number that is kept in two bytes: a larger cell gives 65,535, which no legal period is.
+fn word_number(cell: u32) -> u16
+    ensures { λ r. ⌜ r ≡ wordNumber cell ⌝ }
+{
+    if cell < LAST_WORD {
+        cell as u16
+    } else {
+        LAST_WORD as u16
+    }
+}
+
+// A sample's cell, unless a number beside it cannot be kept.
+fn sample_unless(lost: bool, cell: u32) -> u8
+    ensures { λ r. ⌜ r ≡ sampleUnless lost cell ⌝ }
+{
+    if lost {
+        return NO_SAMPLE;
+    }
+    byte_number(cell)
+}
+
 // The wave whose cells begin at a place.
 fn wave_of(cells: &[u32; CELLS], at: usize) -> Wave
     requires { ⌜ at + waveCellCount ≤ cellCount ⌝ }
     ensures { λ r. ⌜ r ≡ waveOf (now (cells .entry)) at ⌝ }
 {
     Wave {
-        x: wave_number(cells[at]),
-        y: wave_number(cells[at + 1]),
-        place: wave_number(cells[at + 2]),
-        form: wave_number(cells[at + 3]),
+        x: byte_number(cells[at]),
+        y: byte_number(cells[at + 1]),
+        place: byte_number(cells[at + 2]),
+        form: byte_number(cells[at + 3]),
     }
 }
 
@@ -155,21 +194,14 @@ fn channel_of(cells: &[u32; CELLS], at: usize) -> Channel
     ensures { λ r. ⌜ r ≡ channelOf (now (cells .entry)) at ⌝ }
 {
     Channel {
-        latched: cells[at],
-        volume: cells[at + 1],
-        period: cells[at + 2],
-        target: cells[at + 3],
-        memory: cells[at + 4],
+        latched: sample_unless(LAST_BYTE < cells[at + 4], cells[at]),
+        volume: byte_number(cells[at + 1]),
+        memory: byte_number(cells[at + 4]),
+        period: word_number(cells[at + 2]),
+        target: word_number(cells[at + 3]),
         vibrato: wave_of(cells, at + PLAIN_CELLS),
         tremolo: wave_of(cells, at + PLAIN_CELLS + WAVE_CELLS),
     }
-}
-
-// The sample cell, unless the flag's cell is no flag.
-fn sample_by(flag: u32, sample: u32) -> u32
-    ensures { λ r. ⌜ r ≡ sampleBy flag sample ⌝ }
-{
-    if 1 < flag { NO_SAMPLE } else { sample }
 }
 
 // The voice whose cells begin at a place.
@@ -178,12 +210,12 @@ fn voice_of(cells: &[u32; CELLS], at: usize) -> Voice
     ensures { λ r. ⌜ r ≡ voiceOf (now (cells .entry)) at ⌝ }
 {
     Voice {
-        period: cells[at + 1],
-        volume: cells[at + 2],
+        sample: sample_unless((1 < cells[at + 5]) | (LAST_WORD < cells[at + 4]), cells[at]),
+        volume: byte_number(cells[at + 2]),
+        period: word_number(cells[at + 1]),
         index: cells[at + 3],
-        fraction: cells[at + 4],
+        fraction: word_number(cells[at + 4]),
         stopped: cells[at + 5] == 1,
-        sample: sample_by(cells[at + 5], cells[at]),
     }
 }
 

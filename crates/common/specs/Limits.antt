@@ -27,6 +27,10 @@ greatestTempo = 255
 abbrev pub lastByte : ℕ
 lastByte = 255
 
+-- the largest number of two bytes
+abbrev pub lastWord : ℕ
+lastWord = 65535
+
 -- 64 rows, to 63
 abbrev pub rows : ℕ
 rows = 64

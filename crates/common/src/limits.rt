@@ -26,6 +26,9 @@ pub const GREATEST_TEMPO: u32 = 255;
 
 pub const LAST_BYTE: u32 = 255;
 
+// The largest number of two bytes.
+pub const LAST_WORD: u32 = 65535;
+
 pub const ROWS: usize = 64;
 
 pub const LAST_ROW: u32 = 63;

@@ -22,11 +22,11 @@ use ticks::Command;
 fn legal_beside(last: u32, sounded: u32, c: Command) -> bool
     ensures { λ b. ⌜ b ≡ legalBeside last sounded c ⌝ }
 {
-    (c.sample <= last)
-        & (c.volume <= LOUDEST)
-        & is_period(c.period)
-        & (c.offset <= LAST_BYTE)
-        & (c.start | (c.sample == sounded))
+    (c.sample as u32 <= last)
+        & (c.volume as u32 <= LOUDEST)
+        & is_period(c.period as u32)
+        & (c.offset as u32 <= LAST_BYTE)
+        & (c.start | (c.sample as u32 == sounded))
         & (c.start | (c.offset == 0))
 }
 
@@ -45,11 +45,11 @@ fn spelled(stream: &[u8], at: usize) -> Command
     requires { ⌜ at + bodyBytes ≤ length (now stream) ⌝ }
     ensures { λ c. ⌜ c ≡ spelled (now (stream .entry)) at ⌝ }
 {
-    let sample = byte(stream, at);
-    let volume = byte(stream, at + 1);
-    let period = word(stream, at + 2) as u32;
+    let sample = byte(stream, at) as u8;
+    let volume = byte(stream, at + 1) as u8;
+    let period = word(stream, at + 2) as u16;
     let start = byte(stream, at + START_PLACE) == 1;
-    let offset = byte(stream, at + 5);
+    let offset = byte(stream, at + 5) as u8;
     Command {
         sample,
         volume,
@@ -85,7 +85,7 @@ fn read_body(last: u32, stream: &[u8], at: usize, r: Command) -> ChannelRead
         return bad;
     }
     let c = spelled(stream, at);
-    let good = (byte(stream, at + START_PLACE) <= 1) & legal_beside(last, r.sample, c);
+    let good = (byte(stream, at + START_PLACE) <= 1) & legal_beside(last, r.sample as u32, c);
     if !good {
         return bad;
     }

@@ -25,15 +25,15 @@ pub fn is_fresh(channel: Channel) -> bool
 pub fn legal_channel(last: u32, channel: Channel) -> bool
     ensures { λ r. ⌜ r ≡ legalChannel last channel ⌝ }
 {
-    let period = is_period(channel.period);
-    let target = is_period(channel.target);
+    let period = is_period(channel.period as u32);
+    let target = is_period(channel.target as u32);
     let vibrato = legal_wave(channel.vibrato);
     let tremolo = legal_wave(channel.tremolo);
-    (channel.latched <= last)
-        & (channel.volume <= LOUDEST)
+    (channel.latched as u32 <= last)
+        & (channel.volume as u32 <= LOUDEST)
         & period
         & target
-        & (channel.memory <= LAST_BYTE)
+        & (channel.memory as u32 <= LAST_BYTE)
         & vibrato
         & tremolo
 }

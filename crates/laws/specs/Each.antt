@@ -72,12 +72,15 @@ unfolding partly
 partly-each P f c g n d p q i l =
     rw (getD-each (λ k. cond (ltb k c) (f k) (g k)) n i d l) (either (P i) (ltb i c) (f i) (g i) (λ t. p i (ltb-true i c t)) (λ t. q i l (ltb-false i c t)))
 
--- equal one by one below c, and the same past it
-pub same-partly : {A : Type 0} (f h : ℕ → A) (c : ℕ) (g : ℕ → A) (n : ℕ) → ((i : ℕ) → i < c → f i ≡ h i) → partly f c g n ≡ partly h c g n
+-- equal one by one, below c and past it
+pub same-parts : {A : Type 0} (f h : ℕ → A) (c : ℕ) (g k : ℕ → A) (n : ℕ) → ((i : ℕ) → i < c → f i ≡ h i) → ((i : ℕ) → i < n → c ≤ i → g i ≡ k i) → partly f c g n ≡ partly h c k n
 unfolding partly
-same-partly {A} f h c g n e =
+same-parts {A} f h c g k n e q =
     same-each _ _ n
-    (λ i l. either (λ (x : A). x ≡ cond (ltb i c) (h i) (g i)) (ltb i c) (f i) (g i) (λ t. e i (ltb-true i c t) ∙ rw t) (λ t. rw t))
+    (λ i l. either (λ (x : A). x ≡ cond (ltb i c) (h i) (k i)) (ltb i c) (f i) (g i) (λ t. e i (ltb-true i c t) ∙ rw t) (λ t. q i l (ltb-false i c t) ∙ rw t))
+
+pub same-partly : {A : Type 0} (f h : ℕ → A) (c : ℕ) (g : ℕ → A) (n : ℕ) → ((i : ℕ) → i < c → f i ≡ h i) → partly f c g n ≡ partly h c g n
+same-partly f h c g n e = same-parts f h c g g n e (λ i l q. refl)
 
 -- a loop that stores f i at i, for i from 0 up, over g's
 pub record Parting {A : Type 0} (f g : ℕ → A) (d : A) (n : ℕ) (xs : List A) (i : ℕ) : Type 0 where

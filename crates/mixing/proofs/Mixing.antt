@@ -48,9 +48,6 @@ module _ (l : Layout) (file : List ℕ) (extents : List Extent) (vs : List Voice
   pub samples-known : (i : ℕ) → i < c → getD cs i nothing .sample < sampleNumbers
   samples-known i h = omega (arith, ready .commands i h .sample, layout .samples)
 
-  pub offsets-low : (i : ℕ) → i < c → getD cs i nothing .offset < 256
-  offsets-low i h = omega (arith, ready .commands i h .offset)
-
   module _ (marks : List Extent) (told : List Voice) (f : Filled (markAt extents cs) noExtent width marks c) (t : told ≡ within (toldAt marks vs cs) blank c width vs) where
     cut-is : (i : ℕ) → i < c → cutOf file (extentAt marks i) ≡ soundingAt samples cs i
     cut-is i h = ap (cutOf file) (f .done i h)

@@ -42,21 +42,17 @@ module _ (extents : List Extent) (cs : List Command) (c : ℕ) (marks : List Ext
 -- ---- telling: the channels before i have been told
 pub record Telling (xs : List Extent) (vs : List Voice) (cs : List Command) (c : ℕ) (w : List Voice) (i : ℕ) : Type 0 where
   pub room : c ≤ width
-  pub offsets : (j : ℕ) → j < c → getD cs j nothing .offset < 256
   pub most : i ≤ c
   pub voices : Parting (toldAt xs vs cs) (voiceIn vs) blank width w i
 
 module _ (xs : List Extent) (vs : List Voice) (cs : List Command) (c : ℕ) where
-  pub telling-none : c ≤ width → ((j : ℕ) → j < c → getD cs j nothing .offset < 256) → length vs ≡ width → Telling xs vs cs c vs 0
-  telling-none r o l = record { room = r; offsets = o; most = omega arith; voices = within-begin _ blank width vs l }
+  pub telling-none : c ≤ width → length vs ≡ width → Telling xs vs cs c vs 0
+  telling-none r l = record { room = r; most = omega arith; voices = within-begin _ blank width vs l }
 
   module _ (w : List Voice) (i : ℕ) (m : Telling xs vs cs c w i) where
-    pub telling-offset : i < c → getD cs i nothing .offset < 256
-    telling-offset h = m .offsets i h
-
     pub telling-more : (v : Voice) → i < c → v ≡ toldOf (sampleWith [] (extentAt xs i)) (getD cs i nothing) (voiceIn vs i) → Telling xs vs cs c (set w i v) (i + 1)
     unfolding toldAt
-    telling-more v h e = record { room = m .room; offsets = m .offsets; most = omega arith; voices = part-again _ blank width w (voiceIn vs) i c v (m .voices) h (m .room) e }
+    telling-more v h e = record { room = m .room; most = omega arith; voices = part-again _ blank width w (voiceIn vs) i c v (m .voices) h (m .room) e }
 
     pub telling-end : c ≤ i → w ≡ within (toldAt xs vs cs) blank c width vs
     telling-end h = part-end _ blank width w (voiceIn vs) i c (m .voices) h (m .most)

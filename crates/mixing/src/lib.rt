@@ -71,7 +71,6 @@ fn tell(
     commands: [Command; WIDTH],
 ) -> [Voice; WIDTH]
     requires { ⌜ channels ≤ width ⌝ }
-    requires { ⌜ ((i : ℕ) → i < channels → getD commands i nothing .offset < 256) ⌝ }
     ensures { λ r. ⌜ r ≡ within (toldAt extents voices commands) blank channels width voices ⌝ }
 {
     let mut w = voices;

@@ -1,7 +1,7 @@
 -- What the calls go by: 1 to 9, then 14, then a call's own lines. Laws over plain variables.
 -- Assumes nothing.
 use Prim.Native.Nat.{ℕ}
-use mathlib.Core.Path.{_≡_, sym, ap, _∙_}
+use mathlib.Core.Path.{_≡_, refl, sym, ap, _∙_}
 use mathlib.Core.Bool.{Bool, true, false, not, _&&_}
 use mathlib.Core.List.{List, []}
 use native.Mathlib.Omega.{arith}
@@ -25,7 +25,7 @@ use Rattle.player.specs.declared.State.{State}
 use Rattle.player.specs.declared.Reply.{Reply}
 use Rattle.player.specs.State.{legalState, stateLines, reply}
 use Rattle.player.specs.Play.{playedFrom, playOf}
-use Rattle.player.specs.Legal.{Judged}
+use Rattle.player.specs.Legal.{Judged, Playable}
 use Rattle.player.specs.Judging.{never-zero, refused-state, passed-state}
 
 -- ---- the test of a state
@@ -71,3 +71,18 @@ module _ (layout : Layout) (bytes : List ℕ) (s : State) (v : Answer) (j : Judg
     pub play-accepted : (out′ : List ℤ) → v .number ≡ 0 → outcome r out′ ≡ playedFrom (lent layout bytes) (record { song = s .song; voices = s .voices; remainder = s .remainder }) n out → outcome r out′ ≡ playOf bytes s n out
     unfolding playOf refusing
     play-accepted out′ z e = passed-state layout bytes s v j le (λ number place. outcome (reply (refused number place) s) out) (playedFrom (moduleOf bytes) s n out) [] z (outcome r out′) (rw le at e)
+
+-- the same, of a module and a state that are judged one after the other
+module _ (layout : Layout) (bytes : List ℕ) (s : State) (v : Answer) (ve : v ≡ verdict (lent layout bytes)) (le : layout ≡ layoutOf bytes) (n : ℕ) (out : List ℤ) (r : Reply) where
+  pub play-module : (v .number ≡ 0 → ⊥) → r ≡ reply (refused (v .number) (v .place)) s → outcome r out ≡ playOf bytes s n out
+  play-module h e = play-refused layout bytes s v (judged-module layout bytes s v ve h) le n out r h e
+
+  module _ (z : v .number ≡ 0) (l : Bool) (q : l ≡ legalState (lent layout bytes) s) where
+    pub play-illegal : l ≡ false → r ≡ reply (refused 14 0) s → outcome r out ≡ playOf bytes s n out
+    play-illegal h e = play-refused layout bytes s (refused 14 0) (judged-illegal layout bytes s v ve z l q (refused 14 0) h refl) le n out r (λ x. omega (arith, x)) e
+
+    pub play-legal : (out′ : List ℤ) → LegalLayout layout → Bytes bytes → l ≡ true → outcome r out′ ≡ playedFrom (lent layout bytes) (record { song = s .song; voices = s .voices; remainder = s .remainder }) n out → outcome r out′ ≡ playOf bytes s n out
+    play-legal out′ y b h e = play-accepted layout bytes s (accepted 0) (judged-legal layout bytes s v ve z l q (accepted 0) y b h refl) le n out r out′ refl e
+
+pub legal-playable : (layout : Layout) (bytes : List ℕ) (s : State) (v : Answer) (l : Bool) → v ≡ verdict (lent layout bytes) → v .number ≡ 0 → l ≡ legalState (lent layout bytes) s → l ≡ true → LegalLayout layout → Bytes bytes → Playable (lent layout bytes) (record { song = s .song; voices = s .voices; remainder = s .remainder })
+legal-playable layout bytes s v l ve z q h y b = record { layout = y; judged = accepted-by (lent layout bytes) v ve z; bytes = b; legal = sym q ∙ h }

@@ -21,6 +21,7 @@ use Rattle.reader.specs.declared.Layout.{Layout}
 use Rattle.sequencer.specs.declared.Song.{Song}
 use Rattle.sequencer.specs.declared.Worked.{Worked}
 use Rattle.sequencer.specs.Songs.{tickOf}
+use Rattle.sequencer.specs.LegalFacts.{LegalRun}
 use Rattle.voice.specs.declared.Voice.{Voice}
 use Rattle.voice.specs.LegalFacts.{Ready}
 use Rattle.voice.specs.Modules.{samplesIn}
@@ -33,7 +34,7 @@ use Rattle.machine.specs.Carries.{Holds, holds-carries}
 use Rattle.player.specs.declared.State.{State}
 use Rattle.player.specs.Play.{soundings, machineOf}
 use Rattle.player.specs.Legal.{Playable, state-has}
-use Rattle.player.specs.Kept.{tick-is-legal, tick-ready}
+use Rattle.player.specs.Kept.{state-run, tick-is-legal, tick-ready}
 use Rattle.player.specs.Running.{Running, Over, running-none, running-more, over-all, over-full, full-long}
 
 -- the loop runs, with the table of extents, a count and a buffer of the machine's widths, and a remainder below a legal tempo
@@ -69,6 +70,10 @@ module _ {A W : Type 0} (held : W → Machine) (k : Mechanism A W Tick) where
 
     pub turning-within : at ≤ length out
     turning-within = omega (arith, g .run .playing .long, g .run .playing .low)
+
+    -- the song and the sounding samples are legal
+    pub turning-run : LegalRun (lent layout bytes) song (soundings (held w .voices))
+    turning-run = state-run m (g .run .layout) (g .run .judge) (g .run .bytes) song vs (g .run .legal)
 
     pub turning-step : i < n → i + 1 < 2 ^ 32
     turning-step h = omega (arith, g .few)

@@ -67,19 +67,34 @@ pub fn fresh() -> State
     }
 }
 
-// Plays the largest number of whole ticks, up to `ticks`, whose frames fit into out; the rest of out stays.
+// Plays the largest number of whole ticks, up to `ticks`, whose frames fit into out; the rest of out stays. The extents of the samples are found
+// once, for judging the state and for playing.
 pub fn play(file: &[u8], state: State, ticks: u32, out: &mut [i16]) -> Reply
     ensures { λ r. ⌜ outcome r (now (out .exit)) ≡ playOf (now (file .entry)) state ticks (now (out .entry)) ⌝ }
 {
     let layout = reader::offsets::layout_of(file);
-    let judged = legality::judge_state(layout, file, state);
+    let judged = reader::judge_by(layout, file);
     let number = judged.number;
     if number != 0 {
         return refuse(number, judged.place, state);
     }
-    let song = state.song;
-    let voices = state.voices;
-    playing::play_ticks(layout, file, song, voices, state.remainder, ticks, out)
+    let positions = reader::song::song_length(layout, file);
+    let extents = reader::samples::extents(layout, file);
+    if legality::legal_state(layout, file, positions, extents, state) {
+        let song = state.song;
+        let voices = state.voices;
+        return playing::play_ticks(
+            layout,
+            file,
+            extents,
+            song,
+            voices,
+            state.remainder,
+            ticks,
+            out,
+        );
+    }
+    refuse(14, 0, state)
 }
 
 // A page change: touches made on the page before are refused from now on.

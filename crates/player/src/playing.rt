@@ -1,18 +1,21 @@
 // Playing ticks one by one into a buffer.
 ghost use mathlib.Core.Path.{_≡_};
 ghost use Rattle.common.specs.Answers.{accepted, outcome};
-ghost use Rattle.reader.specs.File.{lent, songLength};
+ghost use Rattle.reader.specs.File.{lent};
 ghost use Rattle.reader.specs.Judge.{verdict};
+ghost use Rattle.reader.specs.Samples.{extentsOf};
 ghost use Rattle.reader.specs.Layouts.{LegalLayout};
-ghost use Rattle.sequencer.specs.LegalFacts.{LegalSong};
+ghost use Rattle.sequencer.specs.LegalFacts.{LegalRun};
 ghost use Rattle.sequencer.specs.Songs.{tickOf};
 ghost use Rattle.player.specs.State.{reply};
 ghost use Rattle.player.specs.Play.{soundings, playedFrom};
 ghost use Rattle.player.specs.Legal.{Playable};
 use crate::Reply;
 use crate::State;
+use common::limits::SAMPLE_NUMBERS;
 use common::limits::WIDTH;
 use machine::Machine;
+use reader::Extent;
 use reader::Layout;
 use sequencer::Song;
 use sequencer::Worked;
@@ -24,7 +27,8 @@ fn soundings(voices: [Voice; WIDTH]) -> [u32; WIDTH]
 {
     let mut samples = [0u32; WIDTH];
     for i in 0..WIDTH {
-        samples[i] = voices[i].sample;
+        let voice = voices[i];
+        samples[i] = voice.sample as u32;
     }
     samples
 }
@@ -33,7 +37,7 @@ fn soundings(voices: [Voice; WIDTH]) -> [u32; WIDTH]
 pub fn next_tick(layout: Layout, file: &[u8], song: Song, machine: Machine) -> Worked
     requires layout { ⌜ LegalLayout layout ⌝ }
     requires accepted { ⌜ verdict (lent layout (now file)) .number ≡ 0 ⌝ }
-    requires legal { ⌜ LegalSong (songLength (lent layout (now file))) layout song ⌝ }
+    requires legal { ⌜ LegalRun (lent layout (now file)) song (soundings (machine .voices)) ⌝ }
     ensures { λ r. ⌜ r ≡ tickOf (lent layout (now (file .entry))) song (soundings (machine .voices)) ⌝ }
 {
     let voices = machine.voices;
@@ -58,16 +62,17 @@ pub fn after_ticks(song: Song, machine: Machine, count: u32) -> Reply
 pub fn play_ticks(
     layout: Layout,
     file: &[u8],
+    extents: [Extent; SAMPLE_NUMBERS],
     start: Song,
     sounding: [Voice; WIDTH],
     left: u32,
     n: u32,
     out: &mut [i16],
 ) -> Reply
-    requires { ⌜ Playable (lent layout (now file)) (record { song = start; voices = sounding; remainder = left }) ⌝ }
+    requires playable { ⌜ Playable (lent layout (now file)) (record { song = start; voices = sounding; remainder = left }) ⌝ }
+    requires table { ⌜ extents ≡ extentsOf (lent layout (now file)) ⌝ }
     ensures { λ r. ⌜ outcome r (now (out .exit)) ≡ playedFrom (lent layout (now (file .entry))) (record { song = start; voices = sounding; remainder = left }) n (now (out .entry)) ⌝ }
 {
-    let extents = reader::samples::extents(layout, file);
     let mut song = start;
     let mut machine = Machine {
         voices: sounding,

@@ -1,6 +1,6 @@
--- Laws of the loops over the channels in use, the first c of the registers: the mask, the bytes' number, and the bytes.
+-- Laws of the loops over the channels in use, the first c: the mask, the bytes' number, and the bytes.
 -- Assumes nothing.
-use Prim.Native.Nat.{ℕ, suc, _+_, _*_, _-_, _^_, _≤_, _<_}
+use Prim.Native.Nat.{ℕ, suc, _+_, _*_, _-_, _/_, _%_, _^_, _≤_, _<_}
 use mathlib.Core.Path.{_≡_, refl, ap, _∙_}
 use mathlib.Core.Bool.{Bool, true, false}
 use mathlib.Core.List.{List, [], _∷_, _++_}
@@ -10,16 +10,18 @@ use native.Mathlib.Nat.{lt-of-lt-of-le, pow-suc}
 use lib.ListN.{length, getD, take, drop, drop-of-length-le, length-take, length-drop, length-append}
 use lib.Seq.{drop-cons, getD-take, sets, length-sets}
 use lib.Pow.{pow-pos, pow-mono}
+use borrow.Author.Tests.{eq-eqb, ne-eqb}
 use Rattle.laws.specs.Positions.{sets-append}
 use Rattle.common.specs.Limits.{width}
 use Rattle.common.specs.Bytes.{bit}
 use Rattle.ticks.specs.declared.Command.{Command}
-use Rattle.ticks.specs.declared.Tick.{Tick}
 use Rattle.common.specs.ByteLaws.{bit-most}
 use Rattle.ticks.specs.Commands.{nothing}
-use Rattle.records.specs.LegalLaws.{Spellable, AllSpellable, SpellableTick}
+use Rattle.ticks.specs.Legal.{Spellable}
+use Rattle.records.specs.LegalLaws.{AllSpellable}
 use Rattle.records.specs.Format.{bodyBytes, changed, mask, commandBytes, channelBytes, channelsBytes}
 use Rattle.records.specs.Length.{channel-most}
+use Rattle.records.specs.Marked.{bitBytes, markedBytes}
 
 -- ---- the registers in use
 used-at : (rs : List Command) (c k : ℕ) → k < c → c ≤ length rs → drop k (take c rs) ≡ getD rs k nothing ∷ drop (suc k) (take c rs)
@@ -76,36 +78,40 @@ module _ (rs cs : List Command) (c : ℕ) where
 
 -- ---- what a channel adds to a record
 module _ (r c : Command) (b : Bool) (e : b ≡ changed r c) where
-  channel-some : b ≡ true → channelBytes r c ≡ commandBytes c
-  unfolding channelBytes
-  channel-some h = rw (← e, h)
-
-  channel-none : b ≡ false → channelBytes r c ≡ []
-  unfolding channelBytes
-  channel-none h = rw (← e, h)
-
   pub channel-long : b ≡ true → bodyBytes ≡ length (channelBytes r c)
-  unfolding commandBytes
-  channel-long h = rw (channel-some h)
+  unfolding channelBytes commandBytes
+  channel-long h = rw (← e, h)
 
   pub channel-empty : b ≡ false → 0 ≡ length (channelBytes r c)
-  channel-empty h = rw (channel-none h)
+  unfolding channelBytes
+  channel-empty h = rw (← e, h)
 
-  module _ (at : ℕ) (room room′ : List ℕ) where
-    pub put-some-room : b ≡ true → at + length (channelBytes r c) ≤ length room → at + bodyBytes ≤ length room
-    put-some-room h f = omega (arith, channel-long h)
+-- ---- what a channel adds whose bit is the lowest of m
+module _ (m : ℕ) (c : Command) (at : ℕ) where
+  bit-none : m % 2 ≡ 0 → bitBytes m c ≡ []
+  unfolding bitBytes
+  bit-none h = rw (eq-eqb (m % 2) 0 h)
 
-    pub put-some-next : b ≡ true → at + bodyBytes ≡ at + length (channelBytes r c)
-    put-some-next h = omega (arith, channel-long h)
+  bit-some : (m % 2 ≡ 0 → ⊥) → bitBytes m c ≡ commandBytes c
+  unfolding bitBytes
+  bit-some h = rw (ne-eqb (m % 2) 0 h)
 
-    pub put-some : b ≡ true → room′ ≡ sets room at (commandBytes c) → room′ ≡ sets room at (channelBytes r c)
-    put-some h q = rw (channel-some h) q
+  pub put-none-next : m % 2 ≡ 0 → at ≡ at + length (bitBytes m c)
+  put-none-next h = omega (arith, ap length (bit-none h))
 
-    pub put-none-next : b ≡ false → at ≡ at + length (channelBytes r c)
-    put-none-next h = omega (arith, channel-empty h)
+  pub put-some-next : (m % 2 ≡ 0 → ⊥) → at + bodyBytes ≡ at + length (bitBytes m c)
+  unfolding commandBytes
+  put-some-next h = omega (arith, ap length (bit-some h))
 
-    pub put-none : b ≡ false → room ≡ sets room at (channelBytes r c)
-    put-none h = rw (channel-none h)
+  module _ (room room′ : List ℕ) where
+    pub put-none : m % 2 ≡ 0 → room ≡ sets room at (bitBytes m c)
+    put-none h = rw (bit-none h)
+
+    pub put-some-room : (m % 2 ≡ 0 → ⊥) → at + length (bitBytes m c) ≤ length room → at + bodyBytes ≤ length room
+    put-some-room h f = rw (put-some-next h) f
+
+    pub put-some : (m % 2 ≡ 0 → ⊥) → room′ ≡ sets room at (commandBytes c) → room′ ≡ sets room at (bitBytes m c)
+    put-some h q = rw (bit-some h) q
 
 -- ---- all channels in use, from the first to the last
 module _ (rs cs : List Command) (c : ℕ) where
@@ -155,44 +161,53 @@ module _ (rs cs : List Command) (c : ℕ) where
     pub measured-few : n ≤ bodyBytes * width
     measured-few = omega (arith, w .count, w .most, w .small)
 
-pub spellable-commands : (t : Tick) (c : ℕ) → SpellableTick c t → AllSpellable c (t .commands)
-spellable-commands t c s = s .commands
-
+-- ---- the bytes, by the mask
 pub spellable-at : (cs : List Command) (c k : ℕ) → AllSpellable c cs → k < c → Spellable (getD cs k nothing)
 spellable-at cs c k s h = s k h
 
--- what is written up to p, with what is left from channel k on, is the whole
-pub record Written (rs cs : List Command) (c : ℕ) (room₀ : List ℕ) (p₀ : ℕ) (room : List ℕ) (p k : ℕ) : Type 0 where
+-- what is written up to p, with what the bits left in m say from channel k on, is the whole
+pub record Written (cs : List Command) (c m₀ : ℕ) (room₀ : List ℕ) (p₀ : ℕ) (room : List ℕ) (p m k : ℕ) : Type 0 where
   pub count : c ≤ width
   pub most : k ≤ c
   pub len : length room ≡ length room₀
-  pub place : p + length (channelsBytes (drop k (take c rs)) (drop k cs)) ≡ p₀ + length (channelsBytes (take c rs) cs)
-  pub whole : sets room p (channelsBytes (drop k (take c rs)) (drop k cs)) ≡ sets room₀ p₀ (channelsBytes (take c rs) cs)
+  pub place : p + length (markedBytes m (drop k (take c cs))) ≡ p₀ + length (markedBytes m₀ (take c cs))
+  pub whole : sets room p (markedBytes m (drop k (take c cs))) ≡ sets room₀ p₀ (markedBytes m₀ (take c cs))
 
-module _ (rs cs : List Command) (c : ℕ) (room₀ : List ℕ) (p₀ : ℕ) where
-  pub written-none : c ≤ width → Written rs cs c room₀ p₀ room₀ p₀ 0
+module _ (cs : List Command) (c m₀ : ℕ) (room₀ : List ℕ) (p₀ : ℕ) where
+  pub written-none : c ≤ width → Written cs c m₀ room₀ p₀ room₀ p₀ m₀ 0
   written-none h = record { count = h; most = omega arith; len = refl; place = refl; whole = refl }
 
-  module _ (room : List ℕ) (p k : ℕ) (w : Written rs cs c room₀ p₀ room p k) where
-    module _ (h : k < c) (f : length rs ≡ width) (g : length cs ≡ width) where
-      pub written-room : p₀ + length (channelsBytes (take c rs) cs) ≤ length room₀ → p + length (channelBytes (getD rs k nothing) (getD cs k nothing)) ≤ length room
-      written-room l = omega (arith, w .place, w .len, left-long rs cs c (w .count) f g k h)
+  module _ (room : List ℕ) (p m k : ℕ) (w : Written cs c m₀ room₀ p₀ room p m k) where
+    module _ (h : k < c) (g : length cs ≡ width) where
+      marked-at : markedBytes m (drop k (take c cs)) ≡ bitBytes m (getD cs k nothing) ++ markedBytes (m / 2) (drop (k + 1) (take c cs))
+      unfolding markedBytes
+      marked-at = rw (add-one, used-at cs c k h (omega (arith, w .count)))
 
-      pub written-more : (room′ : List ℕ) (p′ : ℕ) → p′ ≡ p + length (channelBytes (getD rs k nothing) (getD cs k nothing))
-          → room′ ≡ sets room p (channelBytes (getD rs k nothing) (getD cs k nothing)) → Written rs cs c room₀ p₀ room′ p′ (k + 1)
+      marked-long : length (markedBytes m (drop k (take c cs))) ≡ length (bitBytes m (getD cs k nothing)) + length (markedBytes (m / 2) (drop (k + 1) (take c cs)))
+      marked-long = ap length marked-at ∙ length-append (bitBytes m (getD cs k nothing)) (markedBytes (m / 2) (drop (k + 1) (take c cs)))
+
+      pub written-room : p₀ + length (markedBytes m₀ (take c cs)) ≤ length room₀ → p + length (bitBytes m (getD cs k nothing)) ≤ length room
+      written-room l = omega (arith, w .place, w .len, marked-long)
+
+      pub written-more : (room′ : List ℕ) (p′ : ℕ) → p′ ≡ p + length (bitBytes m (getD cs k nothing)) → room′ ≡ sets room p (bitBytes m (getD cs k nothing))
+          → Written cs c m₀ room₀ p₀ room′ p′ (m / 2) (k + 1)
       written-more room′ p′ n o =
-          let x : List ℕ = own rs cs c k in
+          let x : List ℕ = bitBytes m (getD cs k nothing) in
           record {
             count = w .count;
             most = omega arith;
             len = ap length o ∙ length-sets room p x ∙ w .len;
-            place = omega (arith, w .place, left-long rs cs c (w .count) f g k h);
-            whole = rw (o, n, ← sets-append room p x (left rs cs c (k + 1)), ← left-at rs cs c (w .count) f g k h) (w .whole);
+            place = omega (arith, w .place, marked-long);
+            whole = rw (o, n, ← sets-append room p x (markedBytes (m / 2) (drop (k + 1) (take c cs))), ← marked-at) (w .whole);
           }
 
     module _ (h : c ≤ k) where
-      pub written-next : p ≡ p₀ + length (channelsBytes (take c rs) cs)
-      written-next = omega (arith, w .place, ap length (left-none rs cs c k h))
+      marked-none : markedBytes m (drop k (take c cs)) ≡ []
+      unfolding markedBytes
+      marked-none = rw (used-none cs c k h)
 
-      pub written-all : room ≡ sets room₀ p₀ (channelsBytes (take c rs) cs)
-      written-all = rw (left-none rs cs c k h) at (w .whole)
+      pub written-next : p ≡ p₀ + length (markedBytes m₀ (take c cs))
+      written-next = omega (arith, w .place, ap length marked-none)
+
+      pub written-all : room ≡ sets room₀ p₀ (markedBytes m₀ (take c cs))
+      written-all = rw marked-none at (w .whole)

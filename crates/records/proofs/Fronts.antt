@@ -1,17 +1,18 @@
 -- A record and a header at the front of the room: runs of stores that follow each other are one.
 -- Assumes nothing.
 use Prim.Native.Nat.{ℕ, _+_, _≤_, _<_}
-use mathlib.Core.Path.{_≡_, refl, ap, _∙_}
+use mathlib.Core.Path.{_≡_, refl, ap, subst, _∙_}
 use mathlib.Core.List.{List, _++_}
 use native.Mathlib.Omega.{arith}
 use native.Mathlib.Nat.{zero-add}
-use lib.ListN.{length, take, drop, set, length-set}
+use lib.ListN.{length, take, drop, set, length-take, length-set}
 use lib.Seq.{sets, sets-eq, length-sets}
 use Rattle.common.specs.Bytes.{fourBytes}
 use Rattle.ticks.specs.declared.Command.{Command}
 use Rattle.ticks.specs.declared.Tick.{Tick}
 use Rattle.ticks.specs.Play.{over}
 use Rattle.records.specs.Format.{versionPlace, channelsPlace, countPlace, recordsPlace, headBytes, tempoPlace, version, countByte, mask, channelsBytes, recordBytes, streamHeader}
+use Rattle.records.specs.Marked.{markedBytes, marked-mask}
 
 front : (xs room : List ℕ) → length xs ≤ length room → sets room 0 xs ≡ over xs room
 front xs room h = sets-eq xs room 0 (omega arith) ∙ ap (λ (k : ℕ). xs ++ drop k room) (zero-add (length xs))
@@ -29,9 +30,6 @@ module _ (c : ℕ) (registers : List Command) (t : Tick) where
   unfolding recordBytes
   record-long n e = omega arith
 
-  pub record-next : (n : ℕ) → n ≡ headBytes + length (channelsBytes (take c registers) (t .commands)) → n ≡ length (recordBytes c registers t)
-  record-next n e = e ∙ record-long (length (channelsBytes (take c registers) (t .commands))) refl
-
   module _ (room : List ℕ) (h : length (recordBytes c registers t) ≤ length room) where
     pub record-first : 0 < length room
     record-first = omega (arith, record-long _ refl)
@@ -39,12 +37,22 @@ module _ (c : ℕ) (registers : List Command) (t : Tick) where
     pub record-second : (m : ℕ) → tempoPlace < length (set room 0 m)
     record-second m = simp length-set (omega (arith, record-long _ refl))
 
-    pub record-rest : (m v : ℕ) → headBytes + length (channelsBytes (take c registers) (t .commands)) ≤ length (set (set room 0 m) tempoPlace v)
-    record-rest m v = simp length-set (omega (arith, record-long _ refl))
+  -- by its mask
+  module _ (k m : ℕ) (few : c ≤ k) (all : length registers ≡ k) (e : m ≡ mask (take c registers) (t .commands)) where
+    by-mask : markedBytes m (take c (t .commands)) ≡ channelsBytes (take c registers) (t .commands)
+    by-mask =
+        let n : length (take c registers) ≡ c = omega (arith, length-take c registers) in
+        rw e (subst (λ (i : ℕ). markedBytes (mask (take c registers) (t .commands)) (take i (t .commands)) ≡ channelsBytes (take c registers) (t .commands)) n (marked-mask (take c registers) (t .commands)))
 
-    pub record-done : (room′ : List ℕ) (m : ℕ) → m ≡ mask (take c registers) (t .commands)
-        → room′ ≡ sets (set (set room 0 m) tempoPlace (t .tempo)) headBytes (channelsBytes (take c registers) (t .commands)) → room′ ≡ over (recordBytes c registers t) room
-    record-done room′ m e o = o ∙ rw e (unfold recordBytes in front (recordBytes c registers t) room h)
+    pub record-next : (n : ℕ) → n ≡ headBytes + length (markedBytes m (take c (t .commands))) → n ≡ length (recordBytes c registers t)
+    record-next n q = q ∙ record-long (length (markedBytes m (take c (t .commands)))) (ap length by-mask)
+
+    module _ (room : List ℕ) (h : length (recordBytes c registers t) ≤ length room) where
+      pub record-rest : (v : ℕ) → headBytes + length (markedBytes m (take c (t .commands))) ≤ length (set (set room 0 m) tempoPlace v)
+      record-rest v = simp length-set (omega (arith, record-next _ refl))
+
+      pub record-done : (room′ : List ℕ) → room′ ≡ sets (set (set room 0 m) tempoPlace (t .tempo)) headBytes (markedBytes m (take c (t .commands))) → room′ ≡ over (recordBytes c registers t) room
+      record-done room′ o = o ∙ rw (by-mask, e) (unfold recordBytes in front (recordBytes c registers t) room h)
 
 -- ---- a header
 module _ (c follow count : ℕ) (room room₁ : List ℕ) (h : recordsPlace ≤ length room) (e : room₁ ≡ sets room 0 (fourBytes follow)) where

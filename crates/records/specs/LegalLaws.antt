@@ -13,10 +13,10 @@ use Rattle.laws.specs.Every.{all-at, Each, all-by}
 use Rattle.common.specs.Limits.{width, loudest, lastByte}
 use Rattle.ticks.specs.declared.Command.{Command}
 use Rattle.ticks.specs.declared.Tick.{Tick}
-use Rattle.ticks.specs.Legal.{LegalCommand, LegalTick}
+use Rattle.ticks.specs.Legal.{LegalCommand, LegalTick, Spellable, command-spellable}
 use Rattle.records.specs.Legal.{legalBeside}
 use Rattle.laws.specs.Ranges.{padded}
-use Rattle.common.specs.LimitFacts.{LegalPeriod, silent, sounding, period-has, period-by}
+use Rattle.common.specs.LimitFacts.{period-has, period-by}
 use Rattle.ticks.specs.Commands.{nothing}
 
 -- ---- the channels in use
@@ -30,13 +30,6 @@ AllUnused c [] = Unit
 AllUnused c (t ∷ ts) = Unused c (t .commands) × AllUnused c ts
 
 -- ---- what bytes can spell
--- sample, volume and offset are bytes, the period two
-pub record Spellable (c : Command) : Type 0 where
-  pub sample : c .sample ≤ lastByte
-  pub volume : c .volume ≤ lastByte
-  pub period : c .period < 65536
-  pub offset : c .offset ≤ lastByte
-
 -- the commands of the first c channels are such
 abbrev pub AllSpellable : ℕ → List Command → Type 0
 AllSpellable c cs = (i : ℕ) → i < c → Spellable (getD cs i nothing)
@@ -90,14 +83,6 @@ module _ (last sounded : ℕ) (c : Command) where
       )
 
 -- ---- legal ticks can be spelled
-period-small : (p : ℕ) → LegalPeriod p → p < 65536
-period-small p silent = omega arith
-period-small p (sounding h k) = omega arith
-
-command-spellable : (last sounded : ℕ) (c : Command) → last ≤ lastByte → LegalCommand last sounded c → Spellable c
-command-spellable last sounded c h l =
-    record { sample = omega (arith, l .sample); volume = omega (arith, l .volume); period = period-small (c .period) (l .period); offset = l .offset }
-
 pub tick-spellable : (last c : ℕ) (soundings : List ℕ) (t : Tick) → last ≤ lastByte → c ≤ length soundings → LegalTick last soundings t → SpellableTick c t
 tick-spellable last c soundings t h k l =
     record {

@@ -1,6 +1,6 @@
 -- What is written is read back: `decode-encode`, for any number of channels and every known version that can be for so many.
 -- Assumes nothing.
-use Prim.Native.Nat.{ℕ, zero, suc, _+_, _-_, _*_, _/_, _%_, _^_, _≤_, _<_}
+use Prim.Native.Nat.{ℕ, zero, suc, _+_, _-_, _*_, _^_, _≤_, _<_}
 use mathlib.Core.Path.{_≡_, refl, sym, ap, subst, _∙_}
 use mathlib.Core.Bool.{Bool, true, false, not, cond, _||_, true≢false}
 use mathlib.Core.List.{List, [], _∷_, _++_, append-assoc}
@@ -9,7 +9,7 @@ use native.Mathlib.Omega.{arith}
 use lib.ListN.{length, take, drop, length-take, length-drop, length-append}
 use lib.Seq.{getD-take, ext-getD}
 use lib.Dec.{leb, ltb, eqb}
-use borrow.Author.Tests.{eq-eqb, ne-eqb, le-leb, le-ltb, eqb-true}
+use borrow.Author.Tests.{eq-eqb, le-leb, le-ltb, eqb-true}
 use Rattle.laws.specs.Ranges.{all, allFrom}
 use Rattle.common.specs.LimitFacts.{between-by}
 use Rattle.common.specs.ByteLaws.{four-back, bit-back, bit-most}
@@ -24,6 +24,7 @@ use Rattle.ticks.specs.Legal.{LegalCommand, LegalTick, length-sounding, getD-so
 use Rattle.records.specs.LegalLaws.{beside-by, Unused, AllUnused}
 use Rattle.records.specs.Registers.{first-at, Beside}
 use Rattle.records.specs.Length.{count-long, stream-length}
+use Rattle.records.specs.Marked.{lowest, half}
 use Rattle.records.specs.Format.{versionPlace, channelsPlace, countPlace, leastPlace, headBytes, tempoPlace, bodyBytes, startPlace, countedVersion, oldChannels, knownVersion, versionOf, shift, streamChannels, countByte, atFirst, changed, mask, commandBytes, channelBytes, channelsBytes, recordBytes, records, streamHeader, encodeAfter, encode, read, readOn, held, spelled, readBody, readChannel, readChannels, readRecord, ticks, withTick, decodeRecords, decodeAfter, decode}
 
 -- ---- a channel
@@ -70,19 +71,13 @@ channel-back : (last : ℕ) (s : List ℕ) (at : ℕ) (r c : Command) (m : ℕ) 
     → readChannel last s at r (bit b + 2 * m) ≡ read c (at + length (bytesBy b c))
 unfolding readChannel readBody commandBytes all allFrom
 channel-back last s at r c m rest true u l e =
-    let odd : eqb ((1 + 2 * m) % 2) 0 ≡ false = ne-eqb ((1 + 2 * m) % 2) 0 (λ q. omega arith) in
     let fits : leb (at + bodyBytes) (length s) ≡ true = le-leb (at + bodyBytes) (length s) (omega (arith, position-room s at (commandBytes c ++ rest) e (omega arith))) in
     let flag : leb (byteAt s (at + startPlace)) 1 ≡ true = le-leb (byteAt s (at + startPlace)) 1 (omega (arith, at-offset s at (commandBytes c ++ rest) e startPlace, bit-most (c .start))) in
-    rw (odd, fits, flag, command-back s at c rest e, beside-by last (r .sample) c l)
+    rw (lowest true m, fits, flag, command-back s at c rest e, beside-by last (r .sample) c l)
 channel-back last s at r c m rest false u l e =
-    let even : eqb ((0 + 2 * m) % 2) 0 ≡ true = eq-eqb ((0 + 2 * m) % 2) 0 (omega arith) in
-    rw (even, held-same last r c l u, add-zero)
+    rw (lowest false m, held-same last r c l u, add-zero)
 
 -- ---- all channels, of any number
-half : (b : Bool) (m : ℕ) → (bit b + 2 * m) / 2 ≡ m
-half true m = omega arith
-half false m = omega arith
-
 channels-back : (last : ℕ) (s rest : List ℕ) (rs cs : List Command) (at : ℕ) → length rs ≤ length cs → Beside last rs cs → drop at s ≡ channelsBytes rs cs ++ rest
     → readChannels last s at rs (mask rs cs) ≡ read (take (length rs) cs) (at + length (channelsBytes rs cs))
 unfolding readChannels mask channelsBytes channelBytes readOn

@@ -6,9 +6,11 @@ ghost use lib.ListN.{length, take};
 ghost use lib.Seq.{sets};
 ghost use Rattle.common.specs.Limits.{width};
 ghost use Rattle.common.specs.Bytes.{bit};
+ghost use Rattle.ticks.specs.Legal.{Spellable};
 ghost use Rattle.ticks.specs.Play.{over};
-ghost use Rattle.records.specs.LegalLaws.{Spellable, AllSpellable, SpellableTick};
+ghost use Rattle.records.specs.LegalLaws.{AllSpellable, SpellableTick};
 ghost use Rattle.records.specs.Format.{recordsPlace, headBytes, bodyBytes, version, atFirst, changed, mask, commandBytes, channelBytes, channelsBytes, recordBytes, streamHeader};
+ghost use Rattle.records.specs.Marked.{bitBytes, markedBytes};
 use common::bytes::bit_of;
 use common::bytes::put_four;
 use common::limits::WIDTH;
@@ -65,16 +67,7 @@ pub fn at_first() -> [Command; WIDTH]
 fn is_changed(r: Command, c: Command) -> bool
     ensures { λ b. ⌜ b ≡ changed r c ⌝ }
 {
-    if c.sample != r.sample {
-        return true;
-    }
-    if c.volume != r.volume {
-        return true;
-    }
-    if c.period != r.period {
-        return true;
-    }
-    c.start
+    (c.sample != r.sample) | ((c.volume != r.volume) | ((c.period != r.period) | c.start))
 }
 
 // A mask with one more bit below its lowest.
@@ -138,46 +131,48 @@ fn put_command(c: Command, at: usize, room: &mut [u8])
     requires fits { ⌜ at + bodyBytes ≤ length (now room) ⌝ }
     ensures { λ _. ⌜ now (room .exit) ≡ sets (now (room .entry)) at (commandBytes c) ⌝ }
 {
-    room[at] = c.sample as u8;
-    room[at + 1] = c.volume as u8;
+    room[at] = c.sample;
+    room[at + 1] = c.volume;
     room[at + 2] = (c.period / 256) as u8;
     room[at + 3] = (c.period % 256) as u8;
     room[at + START_PLACE] = bit_of(c.start);
-    room[at + 5] = c.offset as u8;
+    room[at + 5] = c.offset;
 }
 
-// Writes what a channel adds to a record at a place, and returns the place after it.
-fn put_channel(r: Command, c: Command, at: usize, room: &mut [u8]) -> usize
+// Writes what a channel whose bit is the lowest of m adds to a record, at a place, and returns the place after it.
+fn put_channel(m: u8, c: Command, at: usize, room: &mut [u8]) -> usize
     requires small { ⌜ Spellable c ⌝ }
-    requires fits { ⌜ at + length (channelBytes r c) ≤ length (now room) ⌝ }
-    ensures next { λ n. ⌜ n ≡ at + length (channelBytes r c) ⌝ }
-    ensures written { λ _. ⌜ now (room .exit) ≡ sets (now (room .entry)) at (channelBytes r c) ⌝ }
+    requires fits { ⌜ at + length (bitBytes m c) ≤ length (now room) ⌝ }
+    ensures next { λ n. ⌜ n ≡ at + length (bitBytes m c) ⌝ }
+    ensures written { λ _. ⌜ now (room .exit) ≡ sets (now (room .entry)) at (bitBytes m c) ⌝ }
 {
-    if is_changed(r, c) {
-        put_command(c, at, room);
-        return at + BODY_BYTES;
+    if m % 2 == 0 {
+        return at;
     }
-    at
+    put_command(c, at, room);
+    at + BODY_BYTES
 }
 
-// Writes what all channels add to a record at a place, and returns the place after it.
+// Writes what all channels add to a record by its mask, at a place, and returns the place after it.
 fn put_channels(
     channels: usize,
-    registers: [Command; WIDTH],
+    mask: u8,
     commands: [Command; WIDTH],
     at: usize,
     room: &mut [u8],
 ) -> usize
     requires few { ⌜ channels ≤ width ⌝ }
     requires small { ⌜ AllSpellable channels commands ⌝ }
-    requires fits { ⌜ at + length (channelsBytes (take channels registers) commands) ≤ length (now room) ⌝ }
-    ensures next { λ n. ⌜ n ≡ at + length (channelsBytes (take channels registers) commands) ⌝ }
-    ensures written { λ _. ⌜ now (room .exit) ≡ sets (now (room .entry)) at (channelsBytes (take channels registers) commands) ⌝ }
+    requires fits { ⌜ at + length (markedBytes mask (take channels commands)) ≤ length (now room) ⌝ }
+    ensures next { λ n. ⌜ n ≡ at + length (markedBytes mask (take channels commands)) ⌝ }
+    ensures written { λ _. ⌜ now (room .exit) ≡ sets (now (room .entry)) at (markedBytes mask (take channels commands)) ⌝ }
 {
     let mut p = at;
+    let mut m = mask;
     let mut k = 0;
     while k < channels {
-        p = put_channel(registers[k], commands[k], p, room);
+        p = put_channel(m, commands[k], p, room);
+        m = m / 2;
         k += 1;
     }
     p
@@ -197,9 +192,10 @@ pub fn put_record(
     ensures written { λ _. ⌜ now (room .exit) ≡ over (recordBytes channels registers tick) (now (room .entry)) ⌝ }
 {
     let commands = tick.commands;
-    room[0] = mask(channels, registers, commands);
+    let m = mask(channels, registers, commands);
+    room[0] = m;
     room[TEMPO_PLACE] = tick.tempo as u8;
-    put_channels(channels, registers, commands, HEAD_BYTES, room)
+    put_channels(channels, m, commands, HEAD_BYTES, room)
 }
 
 // Writes a stream's header at the front of the room: how many bytes follow its first four, how many channels and how many ticks it has.

@@ -58,11 +58,11 @@ module _ (m : Module) (a : Accepted m) (b : Bytes (m .bytes)) (s : Song) (l : Le
 
   -- any channel in the tick
   module _ (sounding : List ℕ) (i : ℕ) (h : i < channelCount m) (k : getD sounding i 0 ≤ sampleCount m) where
-    channel-kept : LegalChannel (sampleCount m) (voicedOn m s sounding i .channel)
+    pub channel-kept : LegalChannel (sampleCount m) (voicedOn m s sounding i .channel)
     unfolding voicedOn
     channel-kept = voiced-channel m a (cellOn m (s .course .at) i) (cell-on i h) (param-on i) (s .time .tick) (s .time .tick % s .time .speed) (getD (s .channels) i freshChannel) (l .channels i h) (getD sounding i 0) k
 
-    command-legal : LegalCommand (sampleCount m) (getD sounding i 0) (voicedOn m s sounding i .command)
+    pub command-legal : LegalCommand (sampleCount m) (getD sounding i 0) (voicedOn m s sounding i .command)
     unfolding voicedOn
     command-legal = voiced-command m a (cellOn m (s .course .at) i) (cell-on i h) (param-on i) (s .time .tick) (s .time .tick % s .time .speed) (getD (s .channels) i freshChannel) (l .channels i h) (getD sounding i 0) k
 

@@ -94,6 +94,10 @@ module _ (m : Module) (a : Accepted m) (b : Bytes (m .bytes)) (room : channelCou
   runs-kept zero s k l = l
   runs-kept (suc n) s k l = runs-kept n _ _ (run-kept s k l)
 
+-- ---- sounding samples that were computed
+pub run-same : (m : Module) (s : Song) (k r : List ℕ) → LegalRun m s k → r ≡ k → LegalRun m s r
+run-same m s k r l e = rw e l
+
 -- ---- a fresh song with no sample sounding is legal for every accepted file
 pub fresh-run : (m : Module) → Accepted m → channelCount m ≤ width → LegalRun m freshSong freshSounding
 fresh-run m a room =

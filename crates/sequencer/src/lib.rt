@@ -1,18 +1,21 @@
 // The sequencer: the song, what a tick does to it, and what the tick tells the voices. It never sees a voice: the sounding sample
 // numbers are handed to it beside the song.
 ghost use mathlib.Core.Path.{_≡_};
-ghost use Prim.Native.Nat.{_+_, _*_, _^_, _<_};
+ghost use Prim.Native.Nat.{ℕ, _+_, _*_, _^_, _<_, _≤_};
+ghost use lib.ListN.{getD};
 ghost use Rattle.common.specs.Limits.{width};
 ghost use Rattle.ticks.specs.Commands.{soundingOf};
 ghost use Rattle.reader.specs.Layouts.{LegalLayout};
-ghost use Rattle.sequencer.specs.LegalFacts.{LegalTime, LegalSong};
+ghost use Rattle.sequencer.specs.LegalFacts.{LegalTime, LegalSong, LegalRun};
 ghost use Rattle.reader.specs.Judge.{verdict};
 ghost use Rattle.effects.specs.Commands.{voiced};
 ghost use Rattle.effects.specs.LegalFacts.{LegalDepths};
+ghost use Rattle.effects.specs.Small.{Small};
 ghost use Rattle.reader.specs.Cells.{cellFrom};
 ghost use Rattle.sequencer.specs.RowFacts.{BeginsAt};
+ghost use Rattle.sequencer.specs.Voicing.{BeforeWork};
 ghost use Rattle.reader.specs.File.{lent, songLength};
-ghost use Rattle.sequencer.specs.Songs.{courseFrom, freshSong, allVoiced, tickWith, tickOf};
+ghost use Rattle.sequencer.specs.Songs.{courseFrom, freshSong, voicedOn, allVoiced, tickWith, tickOf};
 use common::limits::WIDTH;
 use effects::Channel;
 use effects::Voiced;
@@ -145,6 +148,7 @@ fn voiced_on(
 ) -> Voiced
     requires place { ⌜ (row < 2 ^ 62) × (i < width) ⌝ }
     requires depths { ⌜ LegalDepths channel ⌝ }
+    requires small { ⌜ Small (voiced (now file) (cellFrom (now file) (row + 4 * i)) u t channel sounding) ⌝ }
     ensures { λ r. ⌜ r ≡ voiced (now (file .entry)) (cellFrom (now (file .entry)) (row + 4 * i)) u t channel sounding ⌝ }
 {
     effects::commands::voiced(
@@ -157,6 +161,22 @@ fn voiced_on(
     )
 }
 
+// The channels before a tick's work, with no command yet.
+fn before_work(channels: [Channel; WIDTH]) -> AllVoiced
+    ensures { λ r. ⌜ BeforeWork channels r ⌝ }
+{
+    let nothing = Command {
+        sample: 0,
+        volume: 0,
+        period: 0,
+        start: false,
+        offset: 0,
+    };
+    let commands = [nothing; WIDTH];
+    AllVoiced { channels, commands }
+}
+
+// The channels past the count are as fresh, and stay so.
 fn all_voiced(
     layout: Layout,
     file: &[u8],
@@ -167,21 +187,13 @@ fn all_voiced(
     requires layout { ⌜ LegalLayout layout ⌝ }
     requires row { ⌜ BeginsAt (lent layout (now file)) (song .course .at) row ⌝ }
     requires legal { ⌜ LegalSong (songLength (lent layout (now file))) layout song ⌝ }
+    requires small { ⌜ ((j : ℕ) → j < layout .channels → Small (voicedOn (lent layout (now file)) song sounding j)) ⌝ }
     ensures { λ r. ⌜ r ≡ allVoiced (lent layout (now (file .entry))) song sounding ⌝ }
 {
     let u = song.time.tick;
     let t = u % song.time.speed;
-    let channel = effects::fresh_channel();
-    let channels = [channel; WIDTH];
-    let nothing = Command {
-        sample: 0,
-        volume: 0,
-        period: 0,
-        start: false,
-        offset: 0,
-    };
-    let commands = [nothing; WIDTH];
-    let mut all = AllVoiced { channels, commands };
+    let channels = song.channels;
+    let mut all = before_work(channels);
     let mut i = 0;
     while i < layout.channels {
         let voiced = voiced_on(file, row, u, t, song.channels[i], sounding[i], i);
@@ -209,11 +221,11 @@ fn tick_with(song: Song, voiced: AllVoiced) -> Worked
     }
 }
 
-// One tick of a legal song: the song after it, and what it tells the voices. `sounding` are the samples that the voices have.
+// One tick of a legal song: the song after it, and what it tells the voices. `sounding` are the samples that the voices have, legal too.
 pub fn tick(layout: Layout, file: &[u8], song: Song, sounding: [u32; WIDTH]) -> Worked
     requires layout { ⌜ LegalLayout layout ⌝ }
     requires accepted { ⌜ verdict (lent layout (now file)) .number ≡ 0 ⌝ }
-    requires legal { ⌜ LegalSong (songLength (lent layout (now file))) layout song ⌝ }
+    requires legal { ⌜ LegalRun (lent layout (now file)) song sounding ⌝ }
     ensures { λ r. ⌜ r ≡ tickOf (lent layout (now (file .entry))) song sounding ⌝ }
 {
     let positions = reader::song::song_length(layout, file);
@@ -223,13 +235,18 @@ pub fn tick(layout: Layout, file: &[u8], song: Song, sounding: [u32; WIDTH]) -> 
     tick_with(row::song_work(layout, file, positions, row, song), voiced)
 }
 
-// The samples that the voices have after these commands.
-pub fn sounding_of(commands: [Command; WIDTH]) -> [u32; WIDTH]
+// The samples that the voices have after these commands; past the channels in use they have none.
+pub fn sounding_of(channels: usize, commands: [Command; WIDTH]) -> [u32; WIDTH]
+    requires few { ⌜ channels ≤ width ⌝ }
+    requires rest { ⌜ ((i : ℕ) → i < width → channels ≤ i → getD (soundingOf commands) i 0 ≡ 0) ⌝ }
     ensures { λ r. ⌜ r ≡ soundingOf commands ⌝ }
 {
     let mut samples = [0; WIDTH];
-    for i in 0..WIDTH {
-        samples[i] = commands[i].sample;
+    let mut i = 0;
+    while i < channels {
+        let command = commands[i];
+        samples[i] = command.sample as u32;
+        i += 1;
     }
     samples
 }

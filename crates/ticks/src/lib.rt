@@ -4,11 +4,11 @@ use common::limits::WIDTH;
 // What a channel's voice is told in a tick: sounding sample, volume and sounded period, whether the voice starts, and the start's
 // offset / 256 (0 without a start).
 pub struct Command {
-    pub sample: u32,
-    pub volume: u32,
-    pub period: u32,
+    pub sample: u8,
+    pub volume: u8,
+    pub period: u16,
     pub start: bool,
-    pub offset: u32,
+    pub offset: u8,
 }
 
 // A tick: its tempo, and a command for each channel.

@@ -30,7 +30,12 @@ fn next_tick(layout: Layout, file: &[u8], song: Song, registers: [Command; WIDTH
     requires legal { ⌜ LegalRun (lent layout (now file)) song (soundingOf registers) ⌝ }
     ensures { λ r. ⌜ r ≡ tickOf (lent layout (now (file .entry))) song (soundingOf registers) ⌝ }
 {
-    sequencer::tick(layout, file, song, sequencer::sounding_of(registers))
+    sequencer::tick(
+        layout,
+        file,
+        song,
+        sequencer::sounding_of(layout.channels, registers),
+    )
 }
 
 // How many bytes the stream of so many ticks has.

@@ -28,7 +28,7 @@ pub const PIECE: usize = 1024;
 pub const SPARE: usize = 16;
 
 // The pace of a voice of this period.
-pub fn pace(period: u32) -> Pace
+pub fn pace(period: u16) -> Pace
     requires { ⌜ LegalPeriod period ⌝ }
     ensures { λ r. ⌜ Paced period r ⌝ }
 {
@@ -102,7 +102,7 @@ pub fn spread(
     ensures numbers { λ _. ⌜ Holds (oneAt times (sampleWith (now (bytes .entry)) extent) voice) frames (now (cells .exit)) ⌝ }
     ensures long { λ _. ⌜ length (now (cells .exit)) ≡ length (now (cells .entry)) ⌝ }
 {
-    let weight = voice.volume * times;
+    let weight = voice.volume as u32 * times;
     let mut v = voice;
     let mut k = 0;
     while k < frames {

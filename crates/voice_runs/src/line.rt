@@ -85,7 +85,7 @@ pub fn follow(voice: Voice, extent: Extent, pace: Pace, left: usize) -> Line
         };
     }
     let index = voice.index;
-    let n = span(voice.fraction, pace, ahead(index, extent.end), left);
+    let n = span(voice.fraction as u32, pace, ahead(index, extent.end), left);
     Line {
         quiet: index < 2,
         growth: pace.growth as usize,
@@ -105,7 +105,7 @@ fn land(voice: Voice, last: usize, growth: u32, extent: Extent) -> Voice
         return voice;
     }
     let past = last as u32;
-    let placed = voice.placed(voice.index + past / FRACTIONS, past % FRACTIONS);
+    let placed = voice.placed(voice.index + past / FRACTIONS, (past % FRACTIONS) as u16);
     placed.step(growth, extent)
 }
 

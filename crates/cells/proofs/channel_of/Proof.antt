@@ -1,10 +1,7 @@
--- Each field is the cell or the wave that the definition names.
+-- Each field is what its call gives.
 use borrow.Author.Needs.{needs}
 use Rattle.cells.proofs.channel_of.Statement.{statement}
 use Rattle.cells.proofs.channel_of.Tie as tie
-
-returns : tie.Need-returns
-returns c = cc
 
 pub channel-of-spec : {M : Type 1} → statement M
 channel-of-spec =
@@ -15,18 +12,26 @@ channel-of-spec =
     (λ c. search needs)
     (λ c. search needs)
     (λ c. search needs)
-    (λ c. search needs)
-    (λ c. search needs)
-    (λ c. search needs)
-    (λ c. search needs)
-    (λ c. search needs)
-    (λ c. search needs)
-    (λ c. search needs)
+    (λ c κs. search needs)
     (λ c. search needs)
     (λ c. search needs)
     (λ c. search needs)
     (λ c κs. search needs)
     (λ c. search needs)
     (λ c. search needs)
+    (λ c. search needs)
     (λ c κs. search needs)
-    returns)
+    (λ c. search needs)
+    (λ c. search needs)
+    (λ c. search needs)
+    (λ c κs. search needs)
+    (λ c. search needs)
+    (λ c. search needs)
+    (λ c. search needs)
+    (λ c κs. search needs)
+    (λ c. search needs)
+    (λ c κs. search needs)
+    (λ c. search needs)
+    (λ c. search needs)
+    (λ c κs. search needs)
+    (λ c. rw (c .wave-of2 .ensures, c .before .wave-of .ensures, c .before .before .word-number2 .ensures, c .before .before .before .before .word-number .ensures, c .before .before .before .before .before .before .byte-number2 .ensures, c .before .before .before .before .before .before .before .before .byte-number .ensures, c .before .before .before .before .before .before .before .before .before .before .sample-unless .ensures)))

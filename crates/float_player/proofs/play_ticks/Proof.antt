@@ -1,5 +1,5 @@
 -- The loop: what is played, followed by what is left to play, is the whole, on the machine that plays floats (`Sounding`).
-use Rattle.player.specs.Turning.{turning-within, turning-narrow, turning-next, turning-step}
+use Rattle.player.specs.Turning.{turning-run, turning-within, turning-narrow, turning-next, turning-step}
 use Rattle.float_player.proofs.Turns.{Sounding, sounding-begin, sounding-due, sounding-long, sounding-more, ended-all, ended-full}
 use Prim.Native.Nat.{_-_}
 use borrow.Author.Needs.{needs}
@@ -21,7 +21,7 @@ play-ticks-spec =
     μ-loop
     (λ c κs. search needs)
     (λ c. search (sounding-begin, needs))
-    (λ c κs. search needs)
+    (λ c κs. (search needs, (search needs, search (turning-run, needs))))
     (λ c. search (turning-within, turning-narrow, needs))
     (λ c. search needs)
     (λ c. search needs)

@@ -1,7 +1,7 @@
 -- No voice sounds: the frames are zeros. Otherwise the pieces together are the frames, and the voices after them all that moved.
 use borrow.Author.Needs.{needs}
 use Rattle.laws.specs.Tests.{called}
-use Rattle.mixing.proofs.Mixing.{scale-legal, samples-known, offsets-low, told-sounding, pieces-moved, pieces-mixed, silent-moved, silent-mixed}
+use Rattle.mixing.proofs.Mixing.{scale-legal, samples-known, told-sounding, pieces-moved, pieces-mixed, silent-moved, silent-mixed}
 use Rattle.mixing.proofs.mix.Statement.{statement}
 use Rattle.mixing.proofs.mix.Tie as tie
 
@@ -9,7 +9,7 @@ named-requires : tie.Need-named-requires
 named-requires c κs = let p = c .before .pre in (p .0 .channels, samples-known _ _ _ _ _ (p .0) (p .1 .0))
 
 tell-requires : tie.Need-tell-requires
-tell-requires c κs = let p = c .before .before .pre in (p .0 .channels, offsets-low _ _ _ _ _ (p .0) (p .1 .0))
+tell-requires c κs = c .before .before .pre .0 .channels
 
 returns : tie.Need-returns
 returns c =

@@ -1,5 +1,5 @@
 -- The voices told their commands, and then all moved.
-use Rattle.mixing.proofs.Mixing.{samples-known, offsets-low, told-sounding, pieces-moved}
+use Rattle.mixing.proofs.Mixing.{samples-known, told-sounding, pieces-moved}
 use Rattle.mixing.proofs.pass.Statement.{statement}
 use Rattle.mixing.proofs.pass.Tie as tie
 
@@ -7,7 +7,7 @@ named-requires : tie.Need-named-requires
 named-requires c κs = let p = c .before .pre in (p .0 .channels, samples-known _ _ _ _ _ (p .0) (p .1))
 
 tell-requires : tie.Need-tell-requires
-tell-requires c κs = let p = c .before .before .pre in (p .0 .channels, offsets-low _ _ _ _ _ (p .0) (p .1))
+tell-requires c κs = c .before .before .pre .0 .channels
 
 pass-frames-requires : tie.Need-pass-frames-requires
 pass-frames-requires c κs =

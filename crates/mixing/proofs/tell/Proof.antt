@@ -1,7 +1,7 @@
 -- The loop tells each voice its command; past the count they stay.
 use borrow.Author.Needs.{needs}
 use Prim.Native.Nat.{_-_}
-use Rattle.mixing.proofs.Telling.{Telling, telling-none, telling-offset, telling-more, telling-end}
+use Rattle.mixing.proofs.Telling.{Telling, telling-none, telling-more, telling-end}
 use Rattle.mixing.proofs.tell.Statement.{statement}
 use Rattle.mixing.proofs.tell.Tie as tie
 
@@ -24,7 +24,7 @@ tell-spec =
     (λ c. search needs)
     (λ c. search needs)
     (λ c. search needs)
-    (λ c κs. search (telling-offset, needs))
+    (λ c κs. search needs)
     (λ c. search needs)
     (λ c. search needs)
     (λ c. search needs)

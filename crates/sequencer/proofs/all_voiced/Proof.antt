@@ -2,12 +2,12 @@
 use Rattle.reader.specs.File.{lent}
 use borrow.Author.Needs.{needs}
 use Prim.Native.Nat.{_-_}
-use Rattle.sequencer.proofs.Laws.{Voicing, voicing-begin, voicing-depths, voicing-again, voicing-end}
+use Rattle.sequencer.proofs.Laws.{Voicing, voicing-begin, voicing-depths, voicing-small, voicing-again, voicing-end}
 use Rattle.sequencer.proofs.all_voiced.Statement.{statement}
 use Rattle.sequencer.proofs.all_voiced.Tie as tie
 
 abbrev Inv-loop : tie.InvT-loop
-Inv-loop layout file row song sounding u t all₀ i₀ all i = Voicing (lent layout file) song sounding all i
+Inv-loop layout file row song sounding u t all₀ i₀ all i = Voicing (lent layout file) song sounding row all i
 
 abbrev μ-loop : tie.MeasureT-loop
 μ-loop layout file row song sounding u t all₀ i₀ all i = layout .channels - i
@@ -25,7 +25,7 @@ all-voiced-spec =
     (λ c. search needs)
     (λ c. search needs)
     (λ c. search needs)
-    (λ c κs. search (voicing-depths, needs))
+    (λ c κs. (search needs, (search (voicing-depths, needs), search (voicing-small, needs))))
     (λ c. search needs)
     (λ c. search needs)
     (λ c. search needs)

@@ -18,6 +18,7 @@ spread-spec =
     (tie.spec
     Inv-loop
     μ-loop
+    (λ c. search needs)
     (λ c. search (weight-fits, needs))
     (λ c. search (spreading-none, weight-low, needs))
     (λ c. search needs)

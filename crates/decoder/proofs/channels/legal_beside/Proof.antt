@@ -11,4 +11,4 @@ unfolding legalBeside all allFrom
 returns c = cc
 
 pub legal-beside-spec : {M : Type 1} → statement M
-legal-beside-spec = tie.close (tie.spec (λ c κs. search needs) returns)
+legal-beside-spec = tie.close (tie.spec (λ c. search needs) (λ c. search needs) (λ c. search needs) (λ c κs. search needs) (λ c. search needs) (λ c. search needs) returns)

@@ -14,6 +14,7 @@ read-body-spec =
     (λ c κs. search needs)
     (λ c. search needs)
     (λ c κs. search needs)
+    (λ c. search needs)
     (λ c κs. search needs)
     (λ c. search (body-bad, needs))
     (λ c. search needs)

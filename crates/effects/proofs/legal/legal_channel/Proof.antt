@@ -10,8 +10,13 @@ unfolding legalChannel all allFrom
 legal-channel-spec =
     tie.close
     (tie.spec
+    (λ c. search needs)
+    (λ c κs. search needs)
+    (λ c. search needs)
     (λ c κs. search needs)
     (λ c κs. search needs)
     (λ c κs. search needs)
-    (λ c κs. search needs)
-    (λ c. rw (c .before .before .before .legal-wave2 .ensures, c .before .before .before .before .legal-wave .ensures, c .before .before .before .before .before .is-period2 .ensures, c .before .before .before .before .before .before .is-period .ensures)))
+    (λ c. search needs)
+    (λ c. search needs)
+    (λ c. search needs)
+    (λ c. rw (c .before .before .before .legal-wave2 .ensures, c .before .before .before .before .legal-wave .ensures, c .before .before .before .before .before .is-period2 .ensures, c .before .before .before .before .before .before .before .is-period .ensures)))

@@ -32,5 +32,6 @@ soundings-spec =
     (λ c. search needs)
     (λ c. search needs)
     (λ c. search needs)
+    (λ c. search needs)
     (λ c. search (fills, needs))
     returns)

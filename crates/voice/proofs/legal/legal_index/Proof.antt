@@ -14,4 +14,4 @@ unfolding legalIndex
 returns-2 c = search (tests, needs)
 
 pub legal-index-spec : {M : Type 1} → statement M
-legal-index-spec = tie.close (tie.spec returns returns-2)
+legal-index-spec = tie.close (tie.spec returns (λ c. search needs) returns-2)

@@ -10,4 +10,4 @@ unfolding legalVoice all allFrom
 returns c = rw (c .before .before .legal-index .ensures, c .before .before .before .voice-end .ensures, c .before .before .before .before .is-period .ensures)
 
 pub legal-voice-spec : {M : Type 1} → statement M
-legal-voice-spec = tie.close (tie.spec (λ c κs. search needs) (λ c κs. search needs) (λ c κs. search needs) returns)
+legal-voice-spec = tie.close (tie.spec (λ c. search needs) (λ c κs. search needs) (λ c κs. search needs) (λ c κs. search needs) (λ c. search needs) (λ c. search needs) returns)

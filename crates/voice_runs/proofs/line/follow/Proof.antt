@@ -12,6 +12,7 @@ follow-spec =
     (tie.spec
     (λ c κs. search needs)
     (λ c. (search (follows-silent, called, needs), search needs))
+    (λ c. search needs)
     (λ c κs. search (loud-index, called, needs))
     (λ c κs. ((search (ahead-above, called, needs), search (ahead-most, called, needs), search needs), search (pace-inverse, called, needs)))
     (λ c. search needs)

@@ -13,6 +13,7 @@ land-spec =
     (λ c. search (land-silent, called, needs))
     (λ c. search needs)
     (λ c. search (land-fits, called, needs))
+    (λ c. search needs)
     (λ c κs. search needs)
     (λ c κs. (search (land-legal, called, needs), (search (land-rate, needs), search needs)))
     (λ c. search (land-is, called, needs)))
