@@ -1,6 +1,7 @@
 //! A second player of paper 01, of the requests of paper 02 that have landed and of calls that were
 //! asked for beside them, written from their words alone, to compare the first one with.
 
+mod finetune;
 mod floats;
 pub mod generate;
 mod length;
@@ -33,10 +34,11 @@ pub use voice::{growth, End, Voice};
 
 /// The numbers of a state where it is handed over: position, row, tick in row, delay, next
 /// position, next row, loop row, loop count, speed, tempo, remainder, clock, page; then for each of
-/// eight channels, however many the module has, latched sample, volume, period, target, slide
-/// memory, of its vibrato and then of its tremolo x, y, place, form (0 sine, 1 ramp, 2 square), and
-/// of its voice sounding sample, period, volume, index, fraction, stopped (0 or 1).
-pub const STATE_CELLS: usize = 165;
+/// eight channels, however many the module has, latched sample, finetune (in two's complement),
+/// volume, period, target, slide memory, of its vibrato and then of its tremolo x, y, place, form
+/// (0 sine, 1 ramp, 2 square), and of its voice sounding sample, period, volume, index, fraction,
+/// stopped (0 or 1).
+pub const STATE_CELLS: usize = 173;
 
 /// What a call answers: the refusal's number and place, or number and place 0 and the count
 /// of ticks played, bytes written or touches answered, or the cause of quiet.

@@ -1,5 +1,6 @@
 //! Reads a module file: the refusals 1 to 9, and the parts an accepted file hands on.
 
+use crate::finetune::signed;
 use crate::Answer;
 
 pub const HEADERS: usize = 20;
@@ -23,13 +24,15 @@ pub const TAGS: [(&[u8; TAG_BYTES], u32); 4] =
 
 pub const LAST_SAMPLE: u32 = 31;
 pub const LOUDEST: u32 = 64;
-pub const LOWEST_PERIOD: u32 = 113;
-pub const HIGHEST_PERIOD: u32 = 856;
+/// The limits of a cell's period.
+pub const LOWEST_NOTE: u32 = 113;
+pub const HIGHEST_NOTE: u32 = 856;
 
 /// One sample of an accepted module.
 #[derive(Clone, Copy)]
 pub struct Sample<'a> {
     pub bytes: &'a [u8],
+    pub finetune: i32,
     pub volume: u32,
     pub looped: bool,
     /// The loop's first byte; without meaning where the sample isn't looped.
@@ -118,9 +121,9 @@ pub fn tag_channels(tag: &[u8]) -> u32 {
     named.map_or(0, |&(_, channels)| channels)
 }
 
-/// 0, or a period from 113 to 856.
-pub fn legal_period(period: u32) -> bool {
-    period == 0 || (LOWEST_PERIOD..=HIGHEST_PERIOD).contains(&period)
+/// No note, or one whose period is within the limits.
+fn legal_note(period: u32) -> bool {
+    period == 0 || (LOWEST_NOTE..=HIGHEST_NOTE).contains(&period)
 }
 
 fn word(file: &[u8], place: usize) -> u32 {
@@ -133,6 +136,11 @@ fn header(number: usize) -> usize {
 
 fn length_words(file: &[u8], number: usize) -> u32 {
     word(file, header(number) + 22)
+}
+
+/// The finetune in the header's low four bits.
+fn finetune(file: &[u8], number: usize) -> i32 {
+    signed(u32::from(file[header(number) + 24]) % 16)
 }
 
 fn volume_place(number: usize) -> usize {
@@ -215,7 +223,7 @@ fn check_cells(patterns: &[u8]) -> Result<(), Answer> {
         if cell.sample > LAST_SAMPLE {
             return Err(Answer::refused(8, place));
         }
-        if !legal_period(cell.period) {
+        if !legal_note(cell.period) {
             return Err(Answer::refused(9, place));
         }
     }
@@ -238,6 +246,7 @@ fn read_cell(bytes: &[u8]) -> Cell {
 fn samples(file: &[u8], patterns_end: usize) -> [Sample<'_>; SAMPLES] {
     let silent = Sample {
         bytes: &[],
+        finetune: 0,
         volume: 0,
         looped: false,
         loop_first: 0,
@@ -252,6 +261,7 @@ fn samples(file: &[u8], patterns_end: usize) -> [Sample<'_>; SAMPLES] {
         let looped = repeat > 1;
         *sample = Sample {
             bytes: &file[place..place + length as usize],
+            finetune: finetune(file, number),
             volume: u32::from(file[volume_place(number)]),
             looped,
             loop_first: 2 * start,

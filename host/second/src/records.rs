@@ -1,7 +1,8 @@
 //! The tick stream's bytes: its ticks written out and read again.
 
+use crate::finetune::legal_period;
 use crate::length::{carried, tick_frames, tick_rest};
-use crate::module::{legal_period, LAST_SAMPLE, LOUDEST};
+use crate::module::{LAST_SAMPLE, LOUDEST};
 use crate::voice::CHANNELS;
 use crate::Answer;
 

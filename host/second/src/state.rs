@@ -1,21 +1,23 @@
 //! The player's state, its cells and which states are legal.
 
-use crate::module::{legal_period, Module, LAST_SAMPLE, LOUDEST};
+use crate::finetune::{self, legal_period};
+use crate::module::{Module, LAST_SAMPLE, LOUDEST};
 use crate::voice::{Voice, CHANNELS};
 use crate::wave::Wave;
 use crate::{Answer, STATE_CELLS};
 
 /// Cells before the first channel's.
 pub const SONG_CELLS: usize = 13;
-pub const CHANNEL_CELLS: usize = 19;
+pub const CHANNEL_CELLS: usize = 20;
 /// Where a channel's waves and its voice stand among its cells.
-pub const VIBRATO: usize = 5;
-pub const TREMOLO: usize = 9;
-pub const VOICE: usize = 13;
+pub const VIBRATO: usize = 6;
+pub const TREMOLO: usize = 10;
+pub const VOICE: usize = 14;
 
 #[derive(Clone, Copy, Debug, PartialEq, Eq)]
 pub struct Channel {
     pub latched: u32,
+    pub finetune: i32,
     pub volume: u32,
     pub period: u32,
     pub target: u32,
@@ -28,6 +30,7 @@ impl Channel {
     fn fresh() -> Channel {
         Channel {
             latched: 0,
+            finetune: 0,
             volume: 0,
             period: 0,
             target: 0,
@@ -166,6 +169,7 @@ impl State {
 
 fn legal_channel(channel: &Channel) -> bool {
     channel.latched <= LAST_SAMPLE
+        && finetune::legal(channel.finetune)
         && channel.volume <= LOUDEST
         && legal_period(channel.period)
         && legal_period(channel.target)
@@ -190,10 +194,11 @@ fn legal_voice(voice: &Voice, module: &Module) -> bool {
 fn read_channel(cells: &[u32]) -> Channel {
     Channel {
         latched: cells[0],
-        volume: cells[1],
-        period: cells[2],
-        target: cells[3],
-        memory: cells[4],
+        finetune: cells[1] as i32,
+        volume: cells[2],
+        period: cells[3],
+        target: cells[4],
+        memory: cells[5],
         vibrato: read_wave(&cells[VIBRATO..]),
         tremolo: read_wave(&cells[TREMOLO..]),
     }
@@ -221,10 +226,11 @@ fn read_voice(cells: &[u32]) -> Voice {
 
 fn write_channel(channel: &Channel, cells: &mut [u32]) {
     cells[0] = channel.latched;
-    cells[1] = channel.volume;
-    cells[2] = channel.period;
-    cells[3] = channel.target;
-    cells[4] = channel.memory;
+    cells[1] = channel.finetune as u32;
+    cells[2] = channel.volume;
+    cells[3] = channel.period;
+    cells[4] = channel.target;
+    cells[5] = channel.memory;
     write_wave(&channel.vibrato, &mut cells[VIBRATO..]);
     write_wave(&channel.tremolo, &mut cells[TREMOLO..]);
 }

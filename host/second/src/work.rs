@@ -1,17 +1,11 @@
 //! The work of one tick: the row's notes and effects, the next place, and the later ticks' slides
 //! and waves.
 
+use crate::finetune::{limited, raised, signed, tuned};
 use crate::length::{carried, tick_rest};
-use crate::module::{Cell, Module, HIGHEST_PERIOD, LOUDEST, LOWEST_PERIOD};
+use crate::module::{Cell, Module, LOUDEST};
 use crate::state::{Channel, State};
 use crate::voice::CHANNELS;
-
-/// The 36 periods of the semitones.
-const SEMITONES: [u32; 36] = [
-    856, 808, 762, 720, 678, 640, 604, 570, 538, 508, 480, 453, //
-    428, 404, 381, 360, 339, 320, 302, 285, 269, 254, 240, 226, //
-    214, 202, 190, 180, 170, 160, 151, 143, 135, 127, 120, 113,
-];
 
 /// What entry times depth is divided by.
 const VIBRATO_DIVISOR: u32 = 128;
@@ -71,6 +65,7 @@ fn row_work(module: &Module, state: &mut State, starts: &mut Starts) {
     };
     for channel in 0..module.channels as usize {
         let cell = module.cell(state.position, state.row, channel);
+        latch(module, &mut state.channels[channel], &cell);
         note(module, state, channel, &cell, starts);
         row_effect(module, state, channel, &cell, starts);
         flow_effect(module, state, &cell, &mut flow);
@@ -78,20 +73,29 @@ fn row_work(module: &Module, state: &mut State, starts: &mut Starts) {
     fix_next_place(module, state, &flow);
 }
 
-fn note(module: &Module, state: &mut State, channel: usize, cell: &Cell, starts: &mut Starts) {
-    let own = &mut state.channels[channel];
+/// Latches the cell's sample; then E5 may set another finetune than the sample's.
+fn latch(module: &Module, own: &mut Channel, cell: &Cell) {
     if let Some(sample) = module.sample(cell.sample) {
         own.latched = cell.sample;
+        own.finetune = sample.finetune;
         own.volume = sample.volume;
     }
+    if cell.effect == 0xE && cell.parameter / 16 == 0x5 {
+        own.finetune = signed(cell.parameter % 16);
+    }
+}
+
+fn note(module: &Module, state: &mut State, channel: usize, cell: &Cell, starts: &mut Starts) {
+    let own = &mut state.channels[channel];
     if cell.period == 0 {
         return;
     }
+    let period = tuned(cell.period, own.finetune);
     if cell.effect == 0x3 || cell.effect == 0x5 {
-        own.target = cell.period;
+        own.target = period;
         return;
     }
-    own.period = cell.period;
+    own.period = period;
     own.vibrato.place = 0;
     own.tremolo.place = 0;
     let asked = if cell.effect == 0x9 {
@@ -129,8 +133,8 @@ fn row_effect(
         (0x7, _) => own.tremolo.remember(x, y),
         (0x9, _) if cell.period == 0 => restart(module, state, channel, cell.parameter, starts),
         (0xC, _) => own.volume = cell.parameter.min(LOUDEST),
-        (0xE, 0x1) => own.period = period_down(own.period, y),
-        (0xE, 0x2) => own.period = period_up(own.period, y),
+        (0xE, 0x1) => slide_down(own, y),
+        (0xE, 0x2) => slide_up(own, y),
         (0xE, 0x4) => own.vibrato.choose(y),
         (0xE, 0x7) => own.tremolo.choose(y),
         (0xE, 0x9) if y > 0 => restart(module, state, channel, 0, starts),
@@ -221,11 +225,11 @@ fn tick_effect(
     let x = cell.parameter / 16;
     let y = cell.parameter % 16;
     match (cell.effect, x) {
-        (0x1, _) => own.period = period_down(own.period, cell.parameter),
-        (0x2, _) => own.period = period_up(own.period, cell.parameter),
-        (0x3, _) => own.period = period_towards(own.period, own.target, own.memory),
+        (0x1, _) => slide_down(own, cell.parameter),
+        (0x2, _) => slide_up(own, cell.parameter),
+        (0x3, _) => slide_to_target(own),
         (0x5, _) => {
-            own.period = period_towards(own.period, own.target, own.memory);
+            slide_to_target(own);
             own.volume = volume_slid(own.volume, x, y);
         }
         (0x6 | 0xA, _) => own.volume = volume_slid(own.volume, x, y),
@@ -235,29 +239,28 @@ fn tick_effect(
     }
 }
 
-fn period_down(period: u32, by: u32) -> u32 {
-    if period == 0 {
-        return 0;
+fn slide_down(own: &mut Channel, by: u32) {
+    if own.period > 0 {
+        own.period = limited(own.period.saturating_sub(by), own.finetune);
     }
-    period.saturating_sub(by).max(LOWEST_PERIOD)
 }
 
-fn period_up(period: u32, by: u32) -> u32 {
-    if period == 0 {
-        return 0;
+fn slide_up(own: &mut Channel, by: u32) {
+    if own.period > 0 {
+        own.period = limited(own.period + by, own.finetune);
     }
-    (period + by).min(HIGHEST_PERIOD)
 }
 
-fn period_towards(period: u32, target: u32, by: u32) -> u32 {
-    if period == 0 || target == 0 {
-        return period;
+/// Moves the period by the memory, never past the target; the finetune's row doesn't limit it.
+fn slide_to_target(own: &mut Channel) {
+    if own.period == 0 || own.target == 0 {
+        return;
     }
-    if period < target {
-        (period + by).min(target)
+    own.period = if own.period < own.target {
+        (own.period + own.memory).min(own.target)
     } else {
-        period.saturating_sub(by).max(target)
-    }
+        own.period.saturating_sub(own.memory).max(own.target)
+    };
 }
 
 fn volume_up(volume: u32, by: u32) -> u32 {
@@ -304,10 +307,9 @@ fn sounded_period(own: &Channel, cell: &Cell, t: u32) -> u32 {
         0
     } else if vibrates(cell, t) {
         let offset = own.vibrato.offset(VIBRATO_DIVISOR);
-        let period = own.period.saturating_add_signed(offset);
-        period.clamp(LOWEST_PERIOD, HIGHEST_PERIOD)
+        limited(own.period.saturating_add_signed(offset), own.finetune)
     } else if cell.effect == 0 {
-        arpeggio(own.period, cell, t)
+        arpeggio(own, cell, t)
     } else {
         own.period
     }
@@ -323,19 +325,16 @@ fn advance_waves(own: &mut Channel, cell: &Cell, t: u32) {
     }
 }
 
-/// A period above 0, or that of the arpeggio's semitone.
-fn arpeggio(period: u32, cell: &Cell, t: u32) -> u32 {
+/// The channel's period, which is above 0, or that of the arpeggio's semitone.
+fn arpeggio(own: &Channel, cell: &Cell, t: u32) -> u32 {
     let semitones = match t % 3 {
         1 => cell.parameter / 16,
         2 => cell.parameter % 16,
         _ => 0,
     };
     if semitones == 0 {
-        return period;
+        own.period
+    } else {
+        raised(own.period, semitones, own.finetune)
     }
-    let mut entry = 0;
-    while SEMITONES[entry] > period {
-        entry += 1;
-    }
-    SEMITONES[(entry + semitones as usize).min(35)]
 }

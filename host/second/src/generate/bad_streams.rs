@@ -179,6 +179,6 @@ fn past_bits(random: &mut Random, channels: u32) -> u8 {
 }
 
 fn bad_period(random: &mut Random) -> [u8; 2] {
-    let period: u16 = random.pick(&[1, 112, 857, 858, 4_095, 65_535]);
+    let period: u16 = random.pick(&[1, 106, 107, 908, 909, 4_095, 65_535]);
     period.to_be_bytes()
 }

@@ -4,7 +4,7 @@
 
 use super::draft::{Draft, Header};
 use super::Random;
-use crate::module::{HIGHEST_PERIOD, LOWEST_PERIOD, SAMPLES};
+use crate::module::{HIGHEST_NOTE, LOWEST_NOTE, SAMPLES};
 use crate::voice::{growth, is_left, CHANNELS};
 
 /// Frames by which the ends of a side's voices are apart from one of them at most.
@@ -113,26 +113,26 @@ fn wanted(random: &mut Random, limits: &[u32]) -> u32 {
 
 /// The lowest or the highest period, and the words that it goes through in at most so many steps.
 fn at_edge(random: &mut Random, steps: u32) -> (u32, u32) {
-    let period = random.pick(&[LOWEST_PERIOD, HIGHEST_PERIOD]);
+    let period = random.pick(&[LOWEST_NOTE, HIGHEST_NOTE]);
     (period, (bytes_in(steps, period) / 2).max(1))
 }
 
 /// A period, often the lowest or the highest that will do, and the words that it goes through in
 /// just so many steps.
 fn exact(random: &mut Random, steps: u32) -> (u32, u32) {
-    let first = random.between(LOWEST_PERIOD, HIGHEST_PERIOD);
+    let first = random.between(LOWEST_NOTE, HIGHEST_NOTE);
     let edges = if random.chance(50) {
-        [LOWEST_PERIOD, HIGHEST_PERIOD]
+        [LOWEST_NOTE, HIGHEST_NOTE]
     } else {
         [first; 2]
     };
     edges
         .into_iter()
-        .chain(first..=HIGHEST_PERIOD)
-        .chain(LOWEST_PERIOD..first)
+        .chain(first..=HIGHEST_NOTE)
+        .chain(LOWEST_NOTE..first)
         .map(|period| (period, bytes_in(steps, period) / 2))
         .find(|&(period, words)| words > 0 && steps_to(2 * words, period) == steps)
-        .unwrap_or((LOWEST_PERIOD, 1))
+        .unwrap_or((LOWEST_NOTE, 1))
 }
 
 /// A note that goes through so many words to its end, which stops it or is the end of a loop.

@@ -93,6 +93,7 @@ fn fill_song(random: &mut Random, state: &mut State, song_length: u32) {
 fn legal_channel(random: &mut Random) -> Channel {
     Channel {
         latched: random.edge_or(&[0, 1, 31], 0, 31),
+        finetune: 0,
         volume: random.edge_or(&[0, 63, 64], 0, 64),
         period: legal_period(random),
         target: legal_period(random),
@@ -155,7 +156,7 @@ fn past(random: &mut Random, limit: u32) -> u32 {
 }
 
 fn bad_period(random: &mut Random) -> u32 {
-    random.pick(&[1, 111, 112, 857, 858, 4_095, 65_535 + 428, u32::MAX])
+    random.pick(&[1, 106, 107, 908, 909, 4_095, 65_535 + 428, u32::MAX])
 }
 
 fn break_song(random: &mut Random, cells: &mut [u32; STATE_CELLS], song_length: u32) {
@@ -177,10 +178,10 @@ fn break_song(random: &mut Random, cells: &mut [u32; STATE_CELLS], song_length: 
 fn break_channel(random: &mut Random, cells: &mut [u32]) {
     match random.below(5) {
         0 => cells[0] = past(random, 32),
-        1 => cells[1] = past(random, 65),
-        2 => cells[2] = bad_period(random),
-        3 => cells[3] = bad_period(random),
-        _ => cells[4] = past(random, 256),
+        1 => cells[2] = past(random, 65),
+        2 => cells[3] = bad_period(random),
+        3 => cells[4] = bad_period(random),
+        _ => cells[5] = past(random, 256),
     }
 }
 

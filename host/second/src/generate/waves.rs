@@ -3,7 +3,7 @@
 use super::cells::{self, put_effect, with_effect};
 use super::draft::Draft;
 use super::Random;
-use crate::module::{Cell, HIGHEST_PERIOD, LOUDEST, LOWEST_PERIOD, ROWS};
+use crate::module::{Cell, HIGHEST_NOTE, LOUDEST, LOWEST_NOTE, ROWS};
 
 /// Samples that are there; all are looped.
 const SAMPLES: u32 = 4;
@@ -107,9 +107,9 @@ fn cell(random: &mut Random, chance: u32, code: u32) -> Cell {
 /// Mostly a period from which vibrato reaches an end.
 fn period(random: &mut Random) -> u32 {
     match random.below(4) {
-        0 => random.pick(&[LOWEST_PERIOD, HIGHEST_PERIOD]),
-        1 => random.between(LOWEST_PERIOD, LOWEST_PERIOD + FARTHEST + 1),
-        2 => random.between(HIGHEST_PERIOD - FARTHEST - 1, HIGHEST_PERIOD),
+        0 => random.pick(&[LOWEST_NOTE, HIGHEST_NOTE]),
+        1 => random.between(LOWEST_NOTE, LOWEST_NOTE + FARTHEST + 1),
+        2 => random.between(HIGHEST_NOTE - FARTHEST - 1, HIGHEST_NOTE),
         _ => cells::period(random),
     }
 }

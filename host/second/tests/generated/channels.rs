@@ -19,7 +19,7 @@ const TAG: usize = 1_080;
 const TAGS: [&[u8]; 4] = [b"M.K.", b"4CHN", b"6CHN", b"8CHN"];
 const COUNTS: [u32; 3] = [4, 6, 8];
 const SONG_CELLS: usize = 13;
-const CHANNEL_CELLS: usize = 19;
+const CHANNEL_CELLS: usize = 20;
 
 #[test]
 fn every_maker_meets_every_tag() {

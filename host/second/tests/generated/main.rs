@@ -9,6 +9,8 @@ mod floats;
 mod lengths;
 mod parts;
 mod playing;
+#[path = "../printed/mod.rs"]
+mod printed;
 mod quiet;
 mod states;
 mod streams;

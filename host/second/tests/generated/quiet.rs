@@ -21,8 +21,8 @@ fn heard(file: &[u8], cells: &Cells, channel: usize) -> bool {
     let mut alone = fresh();
     alone[own + VOICE..own + CHANNEL_CELLS].copy_from_slice(voice);
     // The tick's work gives a voice its channel's period and volume.
-    alone[own + 1] = voice[2];
-    alone[own + 2] = voice[1];
+    alone[own + 2] = voice[2];
+    alone[own + 3] = voice[1];
     let trace = trace_tick(&blank, &mut alone).expect("legal");
     trace.frames[..2] != [0, 0]
 }

@@ -2,6 +2,7 @@
 //! any wave, and illegal ones break each of its numbers alone.
 
 use crate::common::*;
+use crate::printed::within;
 use second::generate::modules::{module, Size};
 use second::generate::states::{illegal_state, legal_state};
 use second::generate::waves::wavering;
@@ -11,13 +12,14 @@ use second::{channels, fresh, judge, play, play_stream, trace_tick, Trace};
 const DELAY: usize = 3;
 const SPEED: usize = 8;
 const FIRST_CHANNEL: usize = 13;
-const CHANNEL_CELLS: usize = 19;
+const CHANNEL_CELLS: usize = 20;
 const LATCHED: usize = 0;
-const VOLUME: usize = 1;
-const PERIOD: usize = 2;
-const TARGET: usize = 3;
-const VIBRATO: usize = 5;
-const TREMOLO: usize = 9;
+const FINETUNE: usize = 1;
+const VOLUME: usize = 2;
+const PERIOD: usize = 3;
+const TARGET: usize = 4;
+const VIBRATO: usize = 6;
+const TREMOLO: usize = 10;
 
 /// The largest legal x, y, place and form.
 const LASTS: [u32; 4] = [15, 15, 63, 2];
@@ -181,7 +183,7 @@ fn product(wave: &[u32]) -> i32 {
 fn check(met: &Met, case: &str) {
     let period = match met.after[PERIOD] {
         0 => 0,
-        _ if met.vibrates() => met.wide_period().clamp(113, 856) as u32,
+        _ if met.vibrates() => within(met.wide_period(), met.after[FINETUNE] as i32),
         // Arpeggio has its own rule.
         _ if met.effect == 0 => met.period,
         period => period,

@@ -51,8 +51,8 @@ fn legal_numbers_and_their_neighbours() {
         (REMAINDER, 124),
         (at(4, LATCHED), 31),
         (at(4, VOLUME), 64),
-        (at(4, PERIOD), 856),
-        (at(4, TARGET), 856),
+        (at(4, PERIOD), 907),
+        (at(4, TARGET), 907),
         (at(4, MEMORY), 255),
         (at(4, VIBRATO_X), 15),
         (at(4, VIBRATO_Y), 15),
@@ -63,7 +63,7 @@ fn legal_numbers_and_their_neighbours() {
         (at(4, TREMOLO_PLACE), 63),
         (at(4, TREMOLO_FORM), 2),
         (at(4, SOUNDING), 31),
-        (at(4, VOICE_PERIOD), 856),
+        (at(4, VOICE_PERIOD), 907),
         (at(4, VOICE_VOLUME), 64),
         (at(4, INDEX), 0),
         (at(4, FRACTION), 0),
@@ -75,8 +75,9 @@ fn legal_numbers_and_their_neighbours() {
     for (cell, least) in [
         (SPEED, 1),
         (TEMPO, 32),
-        (at(1, PERIOD), 113),
-        (at(1, TARGET), 113),
+        (at(1, PERIOD), 108),
+        (at(1, TARGET), 108),
+        (at(1, VOICE_PERIOD), 108),
     ] {
         assert_eq!(judged(&[(cell, least)]), 0, "cell {cell}");
         assert_eq!(judged(&[(cell, least - 1)]), 14, "cell {cell}");

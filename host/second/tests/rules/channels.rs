@@ -114,7 +114,8 @@ fn each_channel_reads_its_own_cell() {
         for channel in 1..=count {
             let own = &cells[at(channel, LATCHED)..=at(channel, PERIOD)];
             let number = channel as u32 - 1;
-            assert_eq!(own, [1 + number % 3, 10 + number, 200 + number], "{tag:?}");
+            let expected = [1 + number % 3, 0, 10 + number, 200 + number];
+            assert_eq!(own, expected, "{tag:?}");
             let voice = [VOICE_PERIOD, VOICE_VOLUME].map(|cell| cells[at(channel, cell)]);
             assert_eq!(voice, [200 + number, 10 + number], "{tag:?}");
         }
@@ -202,11 +203,13 @@ fn loops_are_counted_from_the_first_channel_to_the_last() {
 // The state.
 
 /// Numbers that a channel's cells may have, but not in a fresh state.
-const OTHER: [(usize, u32); 16] = [
+const OTHER: [(usize, u32); 18] = [
     (LATCHED, 1),
+    (FINETUNE, 7),
+    (FINETUNE, u32::MAX),
     (VOLUME, 64),
     (PERIOD, 428),
-    (TARGET, 113),
+    (TARGET, 108),
     (MEMORY, 255),
     (VIBRATO_X, 1),
     (VIBRATO_Y, 15),
@@ -217,7 +220,7 @@ const OTHER: [(usize, u32); 16] = [
     (TREMOLO_PLACE, 1),
     (TREMOLO_FORM, 1),
     (SOUNDING, 31),
-    (VOICE_PERIOD, 856),
+    (VOICE_PERIOD, 907),
     (VOICE_VOLUME, 1),
 ];
 

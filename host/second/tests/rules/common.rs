@@ -19,24 +19,25 @@ pub const PAGE: usize = 12;
 
 /// Channel cells, counted from the channel's first.
 pub const LATCHED: usize = 0;
-pub const VOLUME: usize = 1;
-pub const PERIOD: usize = 2;
-pub const TARGET: usize = 3;
-pub const MEMORY: usize = 4;
-pub const VIBRATO_X: usize = 5;
-pub const VIBRATO_Y: usize = 6;
-pub const VIBRATO_PLACE: usize = 7;
-pub const VIBRATO_FORM: usize = 8;
-pub const TREMOLO_X: usize = 9;
-pub const TREMOLO_Y: usize = 10;
-pub const TREMOLO_PLACE: usize = 11;
-pub const TREMOLO_FORM: usize = 12;
-pub const SOUNDING: usize = 13;
-pub const VOICE_PERIOD: usize = 14;
-pub const VOICE_VOLUME: usize = 15;
-pub const INDEX: usize = 16;
-pub const FRACTION: usize = 17;
-pub const STOPPED: usize = 18;
+pub const FINETUNE: usize = 1;
+pub const VOLUME: usize = 2;
+pub const PERIOD: usize = 3;
+pub const TARGET: usize = 4;
+pub const MEMORY: usize = 5;
+pub const VIBRATO_X: usize = 6;
+pub const VIBRATO_Y: usize = 7;
+pub const VIBRATO_PLACE: usize = 8;
+pub const VIBRATO_FORM: usize = 9;
+pub const TREMOLO_X: usize = 10;
+pub const TREMOLO_Y: usize = 11;
+pub const TREMOLO_PLACE: usize = 12;
+pub const TREMOLO_FORM: usize = 13;
+pub const SOUNDING: usize = 14;
+pub const VOICE_PERIOD: usize = 15;
+pub const VOICE_VOLUME: usize = 16;
+pub const INDEX: usize = 17;
+pub const FRACTION: usize = 18;
+pub const STOPPED: usize = 19;
 
 pub const ACCEPTED: Answer = Answer {
     number: 0,
@@ -64,7 +65,7 @@ pub fn played(count: u64) -> Answer {
 
 /// The place of a channel's cell in the state, channels counted from 1 as in the paper.
 pub fn at(channel: usize, cell: usize) -> usize {
-    13 + 19 * (channel - 1) + cell
+    13 + 20 * (channel - 1) + cell
 }
 
 pub type Tag = &'static [u8; 4];

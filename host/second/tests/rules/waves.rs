@@ -569,7 +569,7 @@ fn the_note_beside_4_6_and_7_starts_as_usual() {
         let cells = state_after(&draft, 3);
         assert_eq!(
             cells[at(1, LATCHED)..=at(1, MEMORY)],
-            [1, 40, 428, 0, 0],
+            [1, 0, 40, 428, 0, 0],
             "effect {code:X}"
         );
         assert_eq!(cells[at(1, SOUNDING)], 1, "effect {code:X}");
@@ -584,7 +584,10 @@ fn a_note_beside_5_is_a_target() {
     assert_eq!(starts(&draft, 4), [true, false, false, false]);
     let cells = state_after(&draft, 4);
     // Sample 1 is latched and its volume set; sample 2 sounds on.
-    assert_eq!(cells[at(1, LATCHED)..=at(1, MEMORY)], [1, 40, 428, 300, 0]);
+    assert_eq!(
+        cells[at(1, LATCHED)..=at(1, MEMORY)],
+        [1, 0, 40, 428, 300, 0]
+    );
     assert_eq!([cells[at(1, SOUNDING)], cells[at(1, STOPPED)]], [2, 0]);
 }
 
@@ -700,15 +703,15 @@ fn the_waves_stand_between_slide_memory_and_voice() {
         &[(0, 0, 0), (0, 0, 0xE72)],
         &[(0, 0, 0), (0, 300, 0x307)],
     ]);
-    assert_eq!(STATE_CELLS, 165);
+    assert_eq!(STATE_CELLS, 173);
     let cells = state_after(&draft, 10);
     assert_eq!(
-        cells[32..48],
-        [2, 64, 421, 300, 7, 10, 5, 10, 1, 11, 6, 11, 2, 2, 421, 64]
+        cells[33..50],
+        [2, 0, 64, 421, 300, 7, 10, 5, 10, 1, 11, 6, 11, 2, 2, 421, 64]
     );
-    assert_eq!(cells[50], 0);
-    assert_eq!(cells[13..31], [0; 18]);
-    assert_eq!([cells[31], cells[69], cells[88], cells[164]], [1; 4]);
+    assert_eq!(cells[52], 0);
+    assert_eq!(cells[13..32], [0; 19]);
+    assert_eq!([cells[32], cells[72], cells[92], cells[172]], [1; 4]);
 }
 
 #[test]
