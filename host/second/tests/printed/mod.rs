@@ -67,6 +67,10 @@ static ROWS: LazyLock<BTreeMap<i32, Vec<u32>>> = LazyLock::new(|| {
     rows
 });
 
+/// The finetunes that have a row, and a row's places.
+pub const FINETUNES: std::ops::RangeInclusive<i32> = -8..=7;
+pub const PLACES: usize = 36;
+
 /// The 36 periods of a finetune.
 pub fn printed(finetune: i32) -> &'static [u32] {
     &ROWS[&finetune]
@@ -75,5 +79,5 @@ pub fn printed(finetune: i32) -> &'static [u32] {
 /// A period, or the end of the finetune's row that it is beyond.
 pub fn within(period: i32, finetune: i32) -> u32 {
     let row = printed(finetune);
-    (period.max(row[35] as i32) as u32).min(row[0])
+    (period.max(row[PLACES - 1] as i32) as u32).min(row[0])
 }

@@ -6,11 +6,14 @@ mod cases;
 mod channels;
 mod common;
 mod effects;
+mod finetune;
 mod floats;
 mod flow;
 mod lengths;
 mod notes;
 mod parts;
+#[path = "../printed/mod.rs"]
+mod printed;
 mod quiet;
 mod streams;
 mod voices;
