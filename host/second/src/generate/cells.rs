@@ -1,6 +1,6 @@
 //! Random cells: notes, sample numbers, effects and parameters, often at their edges.
 
-use super::Random;
+use super::{finetunes, Random};
 use crate::module::Cell;
 
 const PERIODS: [u32; 16] = [
@@ -126,7 +126,7 @@ pub fn period(random: &mut Random) -> u32 {
 
 /// An effect that works on the channel, or one that does nothing.
 pub fn effect(random: &mut Random) -> u32 {
-    match random.below(21) {
+    match random.below(22) {
         0 | 1 => arpeggio(random),
         2 => 0x100 + random.edge_or(&[0, 1, 2, 5, 255], 0, 255),
         3 => 0x200 + random.edge_or(&[0, 1, 2, 5, 255], 0, 255),
@@ -143,6 +143,7 @@ pub fn effect(random: &mut Random) -> u32 {
         17 => 0x500 + volume_slide(random),
         18 => 0x600 + volume_slide(random),
         19 => form(random),
+        20 => finetunes::set(random),
         _ => 0xF00 + random.edge_or(&[32, 33, 125, 254, 255], 32, 255),
     }
 }
@@ -180,7 +181,7 @@ fn unlisted(random: &mut Random) -> u32 {
     if random.chance(50) {
         0x800 + random.below(256)
     } else {
-        let extended = [0xE00, 0xE30, 0xE50, 0xE80, 0xED0, 0xEF0];
+        let extended = [0xE00, 0xE30, 0xE80, 0xED0, 0xEF0];
         random.pick(&extended) + random.below(16)
     }
 }

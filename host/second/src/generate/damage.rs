@@ -285,8 +285,8 @@ fn break_sample_number(random: &mut Random, file: &mut [u8], place: usize) {
 }
 
 fn break_period(random: &mut Random, file: &mut [u8], place: usize) {
-    let low = random.edge_or(&[1, 112], 1, 112);
-    let high = random.edge_or(&[857, 4_095], 857, 4_095);
+    let low = random.edge_or(&[1, 107, 108, 112], 1, 112);
+    let high = random.edge_or(&[857, 907, 908, 4_095], 857, 4_095);
     let period = random.pick(&[low, high]);
     file[place] = file[place] / 16 * 16 + (period / 256) as u8;
     file[place + 1] = (period % 256) as u8;

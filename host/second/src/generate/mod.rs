@@ -7,6 +7,7 @@ mod cells;
 pub mod damage;
 pub mod draft;
 pub mod ends;
+pub mod finetunes;
 pub mod floats;
 pub mod modules;
 pub mod quiet;

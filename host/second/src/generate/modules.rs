@@ -2,7 +2,7 @@
 
 use super::cells::{self, put_effect, Palette};
 use super::draft::{Draft, Header, CELLS};
-use super::{scenes, Random};
+use super::{finetunes, scenes, Random};
 use crate::module::{Cell, ROWS, TABLE_ENTRIES};
 
 /// How large a generated module may be.
@@ -52,7 +52,7 @@ fn fill_names(random: &mut Random, draft: &mut Draft) {
     }
     for header in &mut draft.headers {
         header.name[random.below(22) as usize] = random.byte();
-        header.finetune = random.byte();
+        header.finetune = finetunes::header_byte(random);
     }
 }
 

@@ -41,7 +41,7 @@ pub fn quiet_state(seed: u64, file: &[u8]) -> [u32; STATE_CELLS] {
 
 fn quiet_voice(random: &mut Random, module: &Module, voice: &mut Voice) {
     voice.volume = random.pick(&[0, 1, 64, 64, 64]);
-    voice.period = random.pick(&[0, 113, 428, 428, 856]);
+    voice.period = random.pick(&[0, 108, 428, 428, 907]);
     let stop = random.chance(25);
     match module.sample(voice.sample) {
         Some(sample) if !voice.stopped && !stop => {

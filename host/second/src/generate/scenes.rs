@@ -1,12 +1,12 @@
 //! Rows on which several rules meet: the combinations that are easily got wrong.
 
 use super::cells::{self, put_effect, with_effect, Palette};
-use super::Random;
+use super::{finetunes, Random};
 use crate::module::Cell;
 
 /// Fills a row with one of the scenes; channels that the scene leaves free stay as they are.
 pub fn fill(random: &mut Random, palette: &Palette, row: &mut [Cell]) {
-    match random.below(18) {
+    match random.below(19) {
         0 | 1 => nested_loops(random, row),
         2 | 3 => jump_and_break(random, palette, row),
         4 | 5 => many_delays(random, row),
@@ -20,6 +20,7 @@ pub fn fill(random: &mut Random, palette: &Palette, row: &mut [Cell]) {
         13 => numbers_alone(random, palette, row),
         14 | 15 => waves(random, palette, row),
         16 => delayed_waves(random, palette, row),
+        17 => retuned(random, palette, row),
         _ => loop_and_break(random, palette, row),
     }
 }
@@ -155,6 +156,19 @@ fn delayed_waves(random: &mut Random, palette: &Palette, row: &mut [Cell]) {
     waves(random, palette, row);
     let code = 0xEE0 + random.between(1, 3);
     put_effect(cells::any(random, row), code);
+}
+
+/// E5 with and without a note and a sample number.
+fn retuned(random: &mut Random, palette: &Palette, row: &mut [Cell]) {
+    for cell in row {
+        if random.chance(40) {
+            cell.sample = cells::sample(random, palette);
+        }
+        if random.chance(50) {
+            cell.period = cells::period(random);
+        }
+        put_effect(cell, finetunes::set(random));
+    }
 }
 
 fn arpeggios(random: &mut Random, palette: &Palette, row: &mut [Cell]) {

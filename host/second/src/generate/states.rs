@@ -1,6 +1,6 @@
 //! Legal states of an accepted module over their whole range, and illegal ones.
 
-use super::{cells, Random};
+use super::{finetunes, Random};
 use crate::module::Module;
 use crate::state::{Channel, State, CHANNEL_CELLS, SONG_CELLS, TREMOLO, VIBRATO, VOICE};
 use crate::voice::{Voice, CHANNELS};
@@ -68,7 +68,7 @@ fn legal_period(random: &mut Random) -> u32 {
     if random.chance(15) {
         0
     } else {
-        cells::period(random)
+        finetunes::period(random)
     }
 }
 
@@ -93,7 +93,7 @@ fn fill_song(random: &mut Random, state: &mut State, song_length: u32) {
 fn legal_channel(random: &mut Random) -> Channel {
     Channel {
         latched: random.edge_or(&[0, 1, 31], 0, 31),
-        finetune: 0,
+        finetune: finetunes::any(random),
         volume: random.edge_or(&[0, 63, 64], 0, 64),
         period: legal_period(random),
         target: legal_period(random),
@@ -159,6 +159,24 @@ fn bad_period(random: &mut Random) -> u32 {
     random.pick(&[1, 106, 107, 908, 909, 4_095, 65_535 + 428, u32::MAX])
 }
 
+/// A number just past the finetunes, or one that is within them in fewer bits.
+fn bad_finetune(random: &mut Random) -> u32 {
+    let past_flattest = u32::MAX - 8;
+    random.pick(&[
+        8,
+        8,
+        past_flattest,
+        past_flattest,
+        9,
+        15,
+        16,
+        255,
+        65_535,
+        1 << 31,
+        past_flattest - 1,
+    ])
+}
+
 fn break_song(random: &mut Random, cells: &mut [u32; STATE_CELLS], song_length: u32) {
     match random.below(8) {
         0 => cells[random.pick(&[0, 4])] = past(random, song_length),
@@ -176,11 +194,12 @@ fn break_song(random: &mut Random, cells: &mut [u32; STATE_CELLS], song_length: 
 }
 
 fn break_channel(random: &mut Random, cells: &mut [u32]) {
-    match random.below(5) {
+    match random.below(6) {
         0 => cells[0] = past(random, 32),
-        1 => cells[2] = past(random, 65),
-        2 => cells[3] = bad_period(random),
-        3 => cells[4] = bad_period(random),
+        1 => cells[1] = bad_finetune(random),
+        2 => cells[2] = past(random, 65),
+        3 => cells[3] = bad_period(random),
+        4 => cells[4] = bad_period(random),
         _ => cells[5] = past(random, 256),
     }
 }
@@ -211,7 +230,7 @@ fn fill_past(random: &mut Random, cells: &mut [u32; STATE_CELLS], channels: u32)
     let cell = &mut cells[past][random.below(CHANNEL_CELLS as u32) as usize];
     // Only the flag of a stopped voice is 1.
     *cell = match *cell {
-        0 => random.pick(&[1, 1, 1, 2, 15, 31, 64, 113, 428, 856, u32::MAX]),
+        0 => random.pick(&[1, 1, 1, 2, 15, 31, 64, 108, 428, 907, u32::MAX]),
         _ => random.pick(&[0, 2]),
     };
 }

@@ -1,6 +1,6 @@
 //! Tick streams: legal ones that no translator would write, and streams damaged at random.
 
-use super::{cells, Random};
+use super::{finetunes, Random};
 use crate::module::Module;
 use crate::records::COUNTED;
 use crate::voice::CHANNELS;
@@ -171,7 +171,7 @@ fn command(random: &mut Random, writer: &mut Writer, channel: usize) -> [u8; 6] 
         let period = if random.chance(10) {
             0
         } else {
-            cells::period(random)
+            finetunes::period(random)
         };
         let volume = random.edge_or(&[0, 63, 64], 0, 64) as u8;
         let [high, low] = (period as u16).to_be_bytes();

@@ -5,6 +5,7 @@ use crate::common::*;
 use second::generate::breaks::breaking;
 use second::generate::damage::{aimed, any_file};
 use second::generate::ends::ends;
+use second::generate::finetunes::finetuned;
 use second::generate::floats::opposite;
 use second::generate::modules::{module, Size};
 use second::generate::quiet::hushed;
@@ -23,7 +24,7 @@ const CHANNEL_CELLS: usize = 20;
 
 #[test]
 fn every_maker_meets_every_tag() {
-    let makers: [fn(u64) -> Vec<u8>; 9] = [
+    let makers: [fn(u64) -> Vec<u8>; 10] = [
         |seed| module(seed, Size::Small),
         |seed| module(seed, Size::Medium),
         |seed| steady(seed, 255),
@@ -33,6 +34,7 @@ fn every_maker_meets_every_tag() {
         hushed,
         opposite,
         wavering,
+        finetuned,
     ];
     for (number, maker) in makers.into_iter().enumerate() {
         let mut seen = [0; 4];

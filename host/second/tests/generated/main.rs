@@ -5,6 +5,7 @@ mod bursts;
 mod channels;
 mod common;
 mod ends;
+mod finetunes;
 mod floats;
 mod lengths;
 mod parts;

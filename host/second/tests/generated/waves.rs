@@ -165,7 +165,7 @@ fn sign(up: bool) -> i32 {
 }
 
 /// A wave's number at its place times its depth; its cells are x, y, place and form.
-fn product(wave: &[u32]) -> i32 {
+pub fn product(wave: &[u32]) -> i32 {
     let (y, place) = (wave[1] as i32, wave[2] as i32);
     let half = HALF_SINE[place as usize % 32];
     let entry = match (wave[3], place < 32) {
