@@ -25,7 +25,7 @@ use replies::put_reply;
 use replies::why_answer;
 
 // Major times 1,000,000, plus minor times 1,000, plus patch.
-const VERSION: u32 = 6000;
+const VERSION: u32 = 7000;
 
 // The version of the library that is linked.
 #[no_mangle]

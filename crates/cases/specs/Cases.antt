@@ -6,7 +6,7 @@ use mathlib.Core.Bool.{true, false}
 use mathlib.Core.List.{List, [], _∷_, _++_}
 use lib.IntN.{ℤ, pos, negℤ}
 use lib.ListN.{getD, replicate}
-use Rattle.laws.specs.Ranges.{each, partly, every, all, allFrom, some, total, largest}
+use Rattle.laws.specs.Ranges.{each, partly, every, all, allFrom, some, total, largest, first}
 use Rattle.ticks.specs.Commands.{nothing}
 use Rattle.common.specs.Bytes.{fourAt}
 use Rattle.common.specs.Answers.{refused, accepted, refusing}
@@ -21,8 +21,10 @@ use Rattle.effects.specs.Notes.{isPortamento, isNote}
 use Rattle.motion.specs.Slides.{lowered, towards}
 use Rattle.motion.specs.Waves.{freshWave, moved}
 use Rattle.motion.specs.Legal.{isFreshWave, legalWave}
-use Rattle.effects.specs.Sounded.{periods, above, semitones, arpeggio, transposed, arpeggiated, soundedPeriod, soundedVolume}
-use Rattle.effects.specs.Work.{givenPeriod, rowPeriod, rowChannel, slidesVolume, tickVolume, tickPeriod, tickChannel, worked}
+use Rattle.tuning.specs.Table.{printed, entry}
+use Rattle.tuning.specs.Tuned.{placeOf, tuned, kept, semitones}
+use Rattle.effects.specs.Sounded.{arpeggio, transposed, arpeggiated, soundedPeriod, soundedVolume}
+use Rattle.effects.specs.Work.{givenFinetune, rowFinetune, givenPeriod, rowPeriod, rowChannel, slidesVolume, tickVolume, tickPeriod, tickChannel, worked}
 use Rattle.effects.specs.Wavering.{vibrates, trembles}
 use Rattle.effects.specs.Commands.{afterSound, voicedBy, voiced}
 use Rattle.effects.specs.Legal.{freshChannel, isFresh, legalChannel}
@@ -81,7 +83,7 @@ cell effect param = record { sample = 0; period = 0; effect = effect; param = pa
 
 -- a channel with a volume and period 428
 abbrev pub channel : ℕ → Channel
-channel volume = record { latched = 0; volume = volume; period = 428; target = 0; memory = 0; vibrato = freshWave; tremolo = freshWave }
+channel volume = record { latched = 0; finetune = 0; volume = volume; period = 428; target = 0; memory = 0; vibrato = freshWave; tremolo = freshWave }
 
 -- a voice on sample 1 at an index and a fraction, with volume 64 and period 428, and the command that leaves it there
 abbrev pub voice : ℕ → ℕ → Voice
@@ -147,8 +149,8 @@ touch-number made = ap (λ (r : Reply). r .answer .number) (touch-judged file fi
 
 pub cases : Cases
 unfolding header row bytes file channelsOf fourAt left clock3 refusing each partly
-    total largest patternsOf samplePlace cellFrom cellAt extentOf
-    isPortamento isNote vibrates trembles moved lowered towards periods above semitones arpeggio transposed arpeggiated soundedPeriod soundedVolume givenPeriod rowPeriod rowChannel slidesVolume tickVolume tickPeriod tickChannel worked afterSound voicedBy voiced
+    some total largest patternsOf samplePlace cellFrom cellAt extentOf
+    isPortamento isNote vibrates trembles moved printed entry first placeOf tuned kept semitones lowered towards arpeggio transposed arpeggiated soundedPeriod soundedVolume givenFinetune rowFinetune givenPeriod rowPeriod rowChannel slidesVolume tickVolume tickPeriod tickChannel worked afterSound voicedBy voiced
     rowSpeed rowDelay rowLoop rowMove rowTime rowFlow flowFrom flowThrough freshSong nextOf courseBy songBy songWork voicedOn allVoiced nextTick timeTo courseTo deskAfter advanced tickWith tickOf songAfter
     arriveAt silentOf signedOf readAt givesOf growthOf carried stepOf toldOf stepsOf sideOf sumOf scaleOf framesFrom mixed carriedAt lengthAt begins tickLength frames ageOf
 cases =

@@ -14,7 +14,7 @@ use Rattle.effects.specs.declared.Channel.{Channel}
 use Rattle.sequencer.specs.declared.Song.{Song}
 use Rattle.voice.specs.declared.Voice.{Voice}
 use Rattle.player.specs.declared.State.{State}
-use Rattle.cells.specs.Cells.{songCellCount, ownCellCount, channelCellCount, cellCount, channelPlace, songCells, ownCells, voiceCells, channelCells, cellsAt, joined, stateCells}
+use Rattle.cells.specs.Cells.{songCellCount, plainCellCount, waveCellCount, ownCellCount, channelCellCount, cellCount, channelPlace, songCells, plainCells, waveCells, ownCells, voiceCells, channelCells, cellsAt, joined, stateCells}
 
 -- ---- a run
 -- what is written, with what is left of the run, is the whole
@@ -36,6 +36,11 @@ module _ (run : List ℕ) (at : ℕ) (cells₀ : List ℕ) where
     put-end h = rw (drop-of-length-le run {i = i} h) at (w .whole)
 
 pub ruleset puts = (put-begin, put-more, put-end)
+
+-- ---- a channel's plain cells, then its waves'
+pub put-three : (c : Channel) (at : ℕ) (cells plain one both : List ℕ) → plain ≡ sets cells at (plainCells c) → one ≡ sets plain (at + plainCellCount) (waveCells (c .vibrato)) → both ≡ sets one (at + plainCellCount + waveCellCount) (waveCells (c .tremolo)) → both ≡ sets cells at (ownCells c)
+put-three c at cells plain one both e q r =
+    rw (sets-append cells at (plainCells c) (waveCells (c .vibrato) ++ waveCells (c .tremolo)), ← e, sets-append plain (at + plainCellCount) (waveCells (c .vibrato)) (waveCells (c .tremolo)), ← q) r
 
 -- ---- a channel's own cells, then its voice's
 pub put-both : (c : Channel) (v : Voice) (at : ℕ) (cells own both : List ℕ) → own ≡ sets cells at (ownCells c) → both ≡ sets own (at + ownCellCount) (voiceCells v) → both ≡ sets cells at (channelCells c v)

@@ -1,13 +1,14 @@
 -- A state as cells, plain numbers at the C boundary: a song's, then each channel's, its own and its voice's.
 -- Assumes nothing.
-use Prim.Native.Nat.{ℕ, zero, suc, _+_, _*_, min}
+use Prim.Native.Nat.{ℕ, zero, suc, _+_, _-_, _*_, min}
 use mathlib.Core.Bool.{Bool, cond, _||_}
 use mathlib.Core.List.{List, [], _∷_, _++_}
 use lib.ListN.{getD}
-use lib.Dec.{eqb, ltb}
+use lib.Dec.{eqb, leb, ltb}
 use Rattle.laws.specs.Ranges.{each}
 use Rattle.common.specs.Bytes.{bit}
 use Rattle.common.specs.Limits.{width, lastByte, lastWord, sampleNumbers}
+use Rattle.tuning.specs.Table.{lastFinetune}
 use Rattle.motion.specs.declared.Wave.{Wave}
 use Rattle.effects.specs.declared.Channel.{Channel}
 use Rattle.effects.specs.Legal.{freshChannel}
@@ -27,7 +28,7 @@ waveCellCount = 4
 
 -- a channel's plain numbers
 abbrev pub plainCellCount : ℕ
-plainCellCount = 5
+plainCellCount = 6
 
 -- its own cells, with two waves
 abbrev pub ownCellCount : ℕ
@@ -68,13 +69,21 @@ songCells s remainder =
     ∷ s .desk .page
     ∷ []
 
+-- -16 as a 32-bit number in two's complement
+abbrev pub belowZero : ℕ
+belowZero = 4294967280
+
+-- a finetune as such a number: 8 to 15 are -8 to -1
+unfoldable pub finetuneCell : ℕ → ℕ
+finetuneCell f = cond (ltb f 8) f (cond (leb f lastFinetune) (belowZero + f) f)
+
 -- x, y, place, form
 abbrev pub waveCells : Wave → List ℕ
 waveCells w = w .x ∷ w .y ∷ w .place ∷ w .form ∷ []
 
--- latched sample, volume, period, target, memory
+-- latched sample, finetune, volume, period, target, memory
 abbrev pub plainCells : Channel → List ℕ
-plainCells c = c .latched ∷ c .volume ∷ c .period ∷ c .target ∷ c .memory ∷ []
+plainCells c = c .latched ∷ finetuneCell (c .finetune) ∷ c .volume ∷ c .period ∷ c .target ∷ c .memory ∷ []
 
 -- then vibrato and tremolo
 abbrev pub ownCells : Channel → List ℕ
@@ -123,15 +132,20 @@ waveOf l at =
       form = byteNumber (getD l (at + 3) 0);
     }
 
+-- the finetune that a cell says: -8 to -1 are 8 to 15; one outside -8 to 7 gives 16, which no legal state has
+unfoldable pub finetuneOf : ℕ → ℕ
+finetuneOf x = cond (ltb x 8) x (cond (ltb x (belowZero + 8)) (lastFinetune + 1) (x - belowZero))
+
 -- a channel's own numbers, from a place on; every byte is a legal memory
 abbrev pub channelOf : List ℕ → ℕ → Channel
 channelOf l at =
     record {
-      latched = sampleUnless (ltb lastByte (getD l (at + 4) 0)) (getD l at 0);
-      volume = byteNumber (getD l (at + 1) 0);
-      period = wordNumber (getD l (at + 2) 0);
-      target = wordNumber (getD l (at + 3) 0);
-      memory = byteNumber (getD l (at + 4) 0);
+      latched = sampleUnless (ltb lastByte (getD l (at + 5) 0)) (getD l at 0);
+      finetune = finetuneOf (getD l (at + 1) 0);
+      volume = byteNumber (getD l (at + 2) 0);
+      period = wordNumber (getD l (at + 3) 0);
+      target = wordNumber (getD l (at + 4) 0);
+      memory = byteNumber (getD l (at + 5) 0);
       vibrato = waveOf l (at + plainCellCount);
       tremolo = waveOf l (at + plainCellCount + waveCellCount);
     }

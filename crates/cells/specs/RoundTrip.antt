@@ -1,20 +1,22 @@
 -- Cells and states say the same: every state whose numbers fit their fields is the state of its cells (`state-cells`), and cells whose numbers fit
--- them are the cells of their state (`cells-state`).
+-- them are the cells of their state (`cells-state`). A finetune's cell says a legal one exactly if it is -8 to 7 (`finetune-legal`, `finetune-inside`).
 -- Assumes nothing.
-use Prim.Native.Nat.{ℕ, zero, suc, _+_, _*_, _≤_, _<_}
+use Prim.Native.Nat.{ℕ, zero, suc, _+_, _-_, _*_, _≤_, _<_}
 use mathlib.Core.Path.{_≡_, refl, sym, ap, ap₂, subst, _∙_}
-use mathlib.Core.Bool.{false}
+use mathlib.Core.Bool.{Bool, true, false}
 use mathlib.Core.List.{List, _++_}
 use native.Mathlib.Nat.{add-zero}
 use native.Mathlib.Omega.{arith}
 use lib.ListN.{length, getD, take, drop, take-append-drop, length-drop}
 use lib.Seq.{drop-drop, getD-drop, getD-take, take-add, take-all, length-take-le}
-use lib.Dec.{eqb}
-use borrow.Author.Tests.{le-ltb}
+use lib.Dec.{eqb, ltb}
+use borrow.Author.Tests.{lt-ltb, le-ltb, le-leb, ltb-true, ltb-false}
+use Rattle.laws.specs.Choice.{either}
 use Rattle.laws.specs.Each.{each-by, getD-each}
 use Rattle.laws.specs.Positions.{at-offset, at-position, drop-past}
 use Rattle.common.specs.Bytes.{bit}
 use Rattle.common.specs.Limits.{width, lastByte, lastWord}
+use Rattle.tuning.specs.Table.{lastFinetune}
 use Rattle.motion.specs.declared.Wave.{Wave}
 use Rattle.effects.specs.declared.Channel.{Channel}
 use Rattle.effects.specs.Legal.{freshChannel}
@@ -22,7 +24,7 @@ use Rattle.effects.specs.Small.{SmallChannel}
 use Rattle.voice.specs.declared.Voice.{Voice}
 use Rattle.voice.specs.Frames.{blank}
 use Rattle.player.specs.declared.State.{State}
-use Rattle.cells.specs.Cells.{songCellCount, plainCellCount, waveCellCount, ownCellCount, voiceCellCount, channelCellCount, cellCount, channelPlace, songCells, plainCells, waveCells, ownCells, voiceCells, cellsAt, stateCells, byteNumber, wordNumber, sampleUnless, waveOf, channelOf, voiceOf, remainderPlace, songOf, stateOf}
+use Rattle.cells.specs.Cells.{songCellCount, plainCellCount, waveCellCount, ownCellCount, voiceCellCount, channelCellCount, cellCount, channelPlace, songCells, belowZero, finetuneCell, plainCells, waveCells, ownCells, voiceCells, cellsAt, stateCells, byteNumber, wordNumber, sampleUnless, waveOf, finetuneOf, channelOf, voiceOf, remainderPlace, songOf, stateOf}
 use Rattle.cells.specs.Joined.{partAt, joined-parts, joined-at}
 use Rattle.laws.specs.Ranges.{each}
 use Rattle.common.specs.ByteLaws.{bit-back, bit-most}
@@ -40,6 +42,49 @@ sample-stays : (n : ℕ) → n ≤ lastByte → sampleUnless false n ≡ n
 unfolding sampleUnless
 sample-stays n h = byte-stays n h
 
+-- ---- a finetune and its cell
+-- how many numbers 32 bits have
+abbrev pub words : ℕ
+words = 4294967296
+
+-- -8 to 7 in two's complement
+pub data Tuning : ℕ → Type 0 where
+  above : {x : ℕ} → x < 8 → Tuning x
+  below : {x : ℕ} → words - 8 ≤ x → x < words → Tuning x
+
+finetune-back : (f : ℕ) → f ≤ lastFinetune → finetuneOf (finetuneCell f) ≡ f
+unfolding finetuneOf finetuneCell
+finetune-back f h =
+    either (λ (x : ℕ). finetuneOf x ≡ f) (ltb f 8) _ _ (λ e. rw (lt-ltb f 8 (ltb-true f 8 e)))
+    (λ e. let l = ltb-false f 8 e in rw (le-leb f lastFinetune h, le-ltb (belowZero + f) 8 (omega arith), le-ltb (belowZero + f) (belowZero + 8) (omega arith)) (omega arith))
+
+finetune-again : (x : ℕ) → Tuning x → finetuneCell (finetuneOf x) ≡ x
+unfolding finetuneOf finetuneCell
+finetune-again x (above l) = rw (lt-ltb x 8 l, lt-ltb x 8 l)
+finetune-again x (below l h) =
+    rw (le-ltb x 8 (omega arith), le-ltb x (belowZero + 8) (omega arith), le-ltb (x - belowZero) 8 (omega arith), le-leb (x - belowZero) lastFinetune (omega arith)) (omega arith)
+
+-- -8 to 7 are legal
+pub finetune-legal : (x : ℕ) → Tuning x → finetuneOf x ≤ lastFinetune
+unfolding finetuneOf
+finetune-legal x (above l) = rw (lt-ltb x 8 l) (omega arith)
+finetune-legal x (below l h) = rw (le-ltb x 8 (omega arith), le-ltb x (belowZero + 8) (omega arith)) (omega arith)
+
+-- and no others
+pub finetune-inside : (x : ℕ) → x < words → finetuneOf x ≤ lastFinetune → Tuning x
+unfolding finetuneOf
+finetune-inside x w h = by (ltb x 8) refl
+  where
+    past : (t : Bool) → ltb x 8 ≡ false → ltb x (belowZero + 8) ≡ t → Tuning x
+    past true e q =
+        let k : lastFinetune + 1 ≤ lastFinetune = rw (e, q) at h in
+        absurd (omega arith)
+    past false e q = below (ltb-false x (belowZero + 8) q) w
+
+    by : (t : Bool) → ltb x 8 ≡ t → Tuning x
+    by true e = above (ltb-true x 8 e)
+    by false e = past (ltb x (belowZero + 8)) e refl
+
 -- ---- numbers that fit
 pub record WaveBytes (w : Wave) : Type 0 where
   pub x : w .x ≤ lastByte
@@ -49,6 +94,7 @@ pub record WaveBytes (w : Wave) : Type 0 where
 
 pub record KeptChannel (c : Channel) : Type 0 where
   pub numbers : SmallChannel c
+  pub finetune : c .finetune ≤ lastFinetune
   pub vibrato : WaveBytes (c .vibrato)
   pub tremolo : WaveBytes (c .tremolo)
 
@@ -68,10 +114,11 @@ pub record KeptVoiceCells (l : List ℕ) (at : ℕ) : Type 0 where
 
 pub record KeptCells (l : List ℕ) (at : ℕ) : Type 0 where
   pub latched : getD l at 0 ≤ lastByte
-  pub volume : getD l (at + 1) 0 ≤ lastByte
-  pub period : getD l (at + 2) 0 ≤ lastWord
-  pub target : getD l (at + 3) 0 ≤ lastWord
-  pub memory : getD l (at + 4) 0 ≤ lastByte
+  pub finetune : Tuning (getD l (at + 1) 0)
+  pub volume : getD l (at + 2) 0 ≤ lastByte
+  pub period : getD l (at + 3) 0 ≤ lastWord
+  pub target : getD l (at + 4) 0 ≤ lastWord
+  pub memory : getD l (at + 5) 0 ≤ lastByte
   pub waves : (j : ℕ) → j < waveCellCount + waveCellCount → getD l (at + plainCellCount + j) 0 ≤ lastByte
   pub voice : KeptVoiceCells l (at + ownCellCount)
 
@@ -97,6 +144,7 @@ channel-back l at c rest b e =
       at-offset l at _ e,
       le-ltb lastByte (c .memory) (b .numbers .memory),
       sample-stays (c .latched) (b .numbers .latched),
+      finetune-back (c .finetune) (b .finetune),
       byte-stays (c .volume) (b .numbers .volume),
       word-stays (c .period) (b .numbers .period),
       word-stays (c .target) (b .numbers .target),
@@ -189,12 +237,13 @@ plain-again l at h k =
     rw (
       part-is l at plainCellCount h,
       add-zero,
-      le-ltb lastByte (getD l (at + 4) 0) (k .memory),
+      le-ltb lastByte (getD l (at + 5) 0) (k .memory),
       sample-stays (getD l at 0) (k .latched),
-      byte-stays (getD l (at + 1) 0) (k .volume),
-      word-stays (getD l (at + 2) 0) (k .period),
-      word-stays (getD l (at + 3) 0) (k .target),
-      byte-stays (getD l (at + 4) 0) (k .memory),
+      finetune-again (getD l (at + 1) 0) (k .finetune),
+      byte-stays (getD l (at + 2) 0) (k .volume),
+      word-stays (getD l (at + 3) 0) (k .period),
+      word-stays (getD l (at + 4) 0) (k .target),
+      byte-stays (getD l (at + 5) 0) (k .memory),
     )
 
 channel-again : (l : List ℕ) (at : ℕ) → at + ownCellCount ≤ length l → KeptCells l at → ownCells (channelOf l at) ≡ take ownCellCount (drop at l)

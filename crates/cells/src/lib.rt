@@ -5,7 +5,7 @@ ghost use lib.ListN.{length};
 ghost use lib.Seq.{sets};
 ghost use Rattle.laws.specs.Ranges.{each};
 ghost use Rattle.common.specs.Limits.{width};
-ghost use Rattle.cells.specs.Cells.{waveCellCount, ownCellCount, voiceCellCount, channelCellCount, cellCount, channelPlace, songCells, ownCells, voiceCells, channelCells, stateCells, byteNumber, wordNumber, sampleUnless, waveOf, channelOf, voiceOf, songOf, stateOf};
+ghost use Rattle.cells.specs.Cells.{plainCellCount, waveCellCount, ownCellCount, voiceCellCount, channelCellCount, cellCount, channelPlace, songCells, plainCells, waveCells, ownCells, voiceCells, channelCells, stateCells, finetuneCell, byteNumber, wordNumber, sampleUnless, finetuneOf, waveOf, channelOf, voiceOf, songOf, stateOf};
 use common::limits::LAST_BYTE;
 use common::limits::LAST_WORD;
 use common::limits::SAMPLE_NUMBERS;
@@ -19,12 +19,13 @@ use sequencer::Loop;
 use sequencer::Place;
 use sequencer::Song;
 use sequencer::Time;
+use tuning::LAST_FINETUNE;
 use voice::Voice;
 
 // A song's cells with the remainder; a channel's plain numbers, a wave's, a channel's own with two waves, its voice's, and both.
 const SONG_CELLS: usize = 13;
 
-const PLAIN_CELLS: usize = 5;
+const PLAIN_CELLS: usize = 6;
 
 const WAVE_CELLS: usize = 4;
 
@@ -39,6 +40,15 @@ pub const CELLS: usize = SONG_CELLS + CHANNEL_CELLS * WIDTH;
 
 // Where the remainder stands.
 const REMAINDER: usize = 10;
+
+// Finetunes from this on mean -8 to -1.
+const LEAST_BELOW: u32 = 8;
+
+// A finetune that no legal state has.
+const NO_FINETUNE: u8 = LAST_FINETUNE as u8 + 1;
+
+// -16 as a 32-bit number in two's complement.
+const BELOW_ZERO: u32 = 4294967280;
 
 // A sample number that no legal state has.
 const NO_SAMPLE: u8 = SAMPLE_NUMBERS as u8;
@@ -76,28 +86,55 @@ fn put_song(song: Song, remainder: u32, cells: &mut [u32; CELLS])
     put(&run, 0, cells);
 }
 
-fn put_own(channel: Channel, at: usize, cells: &mut [u32; CELLS])
-    requires { ⌜ at + ownCellCount ≤ cellCount ⌝ }
-    ensures { λ _. ⌜ now (cells .exit) ≡ sets (now (cells .entry)) at (ownCells channel) ⌝ }
+// The cell of a finetune: 0 to 7, or -8 to -1 for 8 to 15.
+fn finetune_cell(finetune: u8) -> u32
+    ensures { λ r. ⌜ r ≡ finetuneCell finetune ⌝ }
 {
-    let vibrato = channel.vibrato;
-    let tremolo = channel.tremolo;
+    let cell = finetune as u32;
+    if cell < LEAST_BELOW {
+        return cell;
+    }
+    if cell <= LAST_FINETUNE {
+        return BELOW_ZERO + cell;
+    }
+    cell
+}
+
+fn put_plain(channel: Channel, at: usize, cells: &mut [u32; CELLS])
+    requires { ⌜ at + plainCellCount ≤ cellCount ⌝ }
+    ensures { λ _. ⌜ now (cells .exit) ≡ sets (now (cells .entry)) at (plainCells channel) ⌝ }
+{
     let run = [
         channel.latched as u32,
+        finetune_cell(channel.finetune),
         channel.volume as u32,
         channel.period as u32,
         channel.target as u32,
         channel.memory as u32,
-        vibrato.x as u32,
-        vibrato.y as u32,
-        vibrato.place as u32,
-        vibrato.form as u32,
-        tremolo.x as u32,
-        tremolo.y as u32,
-        tremolo.place as u32,
-        tremolo.form as u32,
     ];
     put(&run, at, cells);
+}
+
+fn put_wave(wave: Wave, at: usize, cells: &mut [u32; CELLS])
+    requires { ⌜ at + waveCellCount ≤ cellCount ⌝ }
+    ensures { λ _. ⌜ now (cells .exit) ≡ sets (now (cells .entry)) at (waveCells wave) ⌝ }
+{
+    let run = [
+        wave.x as u32,
+        wave.y as u32,
+        wave.place as u32,
+        wave.form as u32,
+    ];
+    put(&run, at, cells);
+}
+
+fn put_own(channel: Channel, at: usize, cells: &mut [u32; CELLS])
+    requires { ⌜ at + ownCellCount ≤ cellCount ⌝ }
+    ensures { λ _. ⌜ now (cells .exit) ≡ sets (now (cells .entry)) at (ownCells channel) ⌝ }
+{
+    put_plain(channel, at, cells);
+    put_wave(channel.vibrato, at + PLAIN_CELLS, cells);
+    put_wave(channel.tremolo, at + PLAIN_CELLS + WAVE_CELLS, cells);
 }
 
 fn put_voice(voice: Voice, at: usize, cells: &mut [u32; CELLS])
@@ -188,17 +225,31 @@ fn wave_of(cells: &[u32; CELLS], at: usize) -> Wave
     }
 }
 
+// The finetune that a cell says: one outside -8 to 7 gives 16, which no legal state has.
+fn finetune_of(cell: u32) -> u8
+    ensures { λ r. ⌜ r ≡ finetuneOf cell ⌝ }
+{
+    if cell < LEAST_BELOW {
+        return cell as u8;
+    }
+    if cell < BELOW_ZERO + LEAST_BELOW {
+        return NO_FINETUNE;
+    }
+    (cell - BELOW_ZERO) as u8
+}
+
 // The channel whose own cells begin at a place.
 fn channel_of(cells: &[u32; CELLS], at: usize) -> Channel
     requires { ⌜ at + ownCellCount ≤ cellCount ⌝ }
     ensures { λ r. ⌜ r ≡ channelOf (now (cells .entry)) at ⌝ }
 {
     Channel {
-        latched: sample_unless(LAST_BYTE < cells[at + 4], cells[at]),
-        volume: byte_number(cells[at + 1]),
-        memory: byte_number(cells[at + 4]),
-        period: word_number(cells[at + 2]),
-        target: word_number(cells[at + 3]),
+        latched: sample_unless(LAST_BYTE < cells[at + 5], cells[at]),
+        finetune: finetune_of(cells[at + 1]),
+        volume: byte_number(cells[at + 2]),
+        memory: byte_number(cells[at + 5]),
+        period: word_number(cells[at + 3]),
+        target: word_number(cells[at + 4]),
         vibrato: wave_of(cells, at + PLAIN_CELLS),
         tremolo: wave_of(cells, at + PLAIN_CELLS + WAVE_CELLS),
     }

@@ -5,6 +5,7 @@ use mathlib.Core.Path.{_≡_, refl, sym, ap, subst}
 use mathlib.Core.Bool.{Bool, true, false, not, _||_}
 use mathlib.Core.Logic.{⊎-elim}
 use lib.Dec.{eqb, leb, ltb}
+use native.Mathlib.Omega.{arith}
 use borrow.Author.Tests.{le-leb, eqb-true, leb-true, ltb-false}
 use Rattle.laws.specs.Tests.{or-parts, and-right}
 use Rattle.laws.specs.Every.{both, first-of, second-of, one-of, second-one}
@@ -57,4 +58,4 @@ cell-period-has p h = by (eqb p 0) refl
 -- a state may hold every period that a cell may
 pub cell-period-legal : (p : ℕ) → CellPeriod p → LegalPeriod p
 cell-period-legal p none = silent
-cell-period-legal p (note a b) = sounding a b
+cell-period-legal p (note a b) = sounding {p = p} (omega arith) (omega arith)

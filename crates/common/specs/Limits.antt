@@ -45,12 +45,12 @@ leastCellPeriod = 113
 abbrev pub greatestCellPeriod : ℕ
 greatestCellPeriod = 856
 
--- a state's and a tick's period is 0 or 113 to 856
+-- a state's and a tick's period is 0 or 108 to 907, the least and the greatest of the periods of all finetunes
 abbrev pub leastPeriod : ℕ
-leastPeriod = 113
+leastPeriod = 108
 
 abbrev pub greatestPeriod : ℕ
-greatestPeriod = 856
+greatestPeriod = 907
 
 abbrev pub between : ℕ → ℕ → ℕ → Bool
 between least greatest n = leb least n && leb n greatest

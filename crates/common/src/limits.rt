@@ -16,9 +16,9 @@ pub const LEAST_CELL_PERIOD: u32 = 113;
 pub const GREATEST_CELL_PERIOD: u32 = 856;
 
 // A state's or a tick's period that is not 0.
-pub const LEAST_PERIOD: u32 = 113;
+pub const LEAST_PERIOD: u32 = 108;
 
-pub const GREATEST_PERIOD: u32 = 856;
+pub const GREATEST_PERIOD: u32 = 907;
 
 pub const LEAST_TEMPO: u32 = 32;
 

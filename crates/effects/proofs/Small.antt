@@ -9,8 +9,8 @@ use mir.Val.{Fits}
 use Rattle.ticks.specs.Legal.{Spellable}
 use Rattle.reader.specs.declared.Cell.{Cell}
 use Rattle.effects.specs.Small.{SmallChannel, Small}
-use Rattle.effects.specs.Untouched.{rowNumbers}
-use Rattle.effects.specs.Work.{latchedBy, givenVolume, rowVolume, givenPeriod, rowPeriod, rowTarget, rowMemory, rowChannel, tickVolume, tickPeriod, tickChannel, worked}
+use Rattle.effects.specs.Untouched.{rowPeriods, rowNumbers}
+use Rattle.effects.specs.Work.{latchedBy, rowFinetune, givenVolume, rowVolume, givenPeriod, rowPeriod, rowTarget, rowMemory, rowChannel, tickVolume, tickPeriod, tickChannel, worked}
 use Rattle.effects.specs.Starts.{startFor}
 use Rattle.effects.specs.Sounded.{soundedPeriod, soundedVolume}
 use Rattle.effects.specs.Commands.{commandOf, voicedBy, voiced}
@@ -42,6 +42,10 @@ module _ (bytes : List ℕ) (c : Cell) (ch : Channel) (h : SmallChannel (rowNumb
   unfolding rowChannel
   latched-fits e = record { fits = omega (arith, h .latched, e) }
 
+  pub finetune-fits : r ≡ rowFinetune bytes c (ch .finetune) → Fits w8 r
+  unfolding rowChannel
+  finetune-fits e = record { fits = omega (arith, h .finetune, e) }
+
   pub row-volume-fits : (g : ℕ) → g ≡ givenVolume bytes c (ch .volume) → r ≡ rowVolume c g → Fits w8 r
   unfolding rowChannel
   row-volume-fits g q e = record { fits = rw (e, q) (omega (arith, h .volume)) }
@@ -50,12 +54,11 @@ module _ (bytes : List ℕ) (c : Cell) (ch : Channel) (h : SmallChannel (rowNumb
   unfolding rowChannel
   memory-fits e = record { fits = omega (arith, h .memory, e) }
 
-  pub row-period-fits : (g : ℕ) → g ≡ givenPeriod c (ch .period) → r ≡ rowPeriod c g → Fits w16 r
-  unfolding rowChannel
+module _ (c : Cell) (ch : Channel) (h : SmallChannel (rowPeriods c ch)) (r : ℕ) where
+  pub row-period-fits : (g : ℕ) → g ≡ givenPeriod (ch .finetune) c (ch .period) → r ≡ rowPeriod (ch .finetune) c g → Fits w16 r
   row-period-fits g q e = record { fits = rw (e, q) (omega (arith, h .period)) }
 
-  pub target-fits : r ≡ rowTarget c (ch .target) → Fits w16 r
-  unfolding rowChannel
+  pub target-fits : r ≡ rowTarget (ch .finetune) c (ch .target) → Fits w16 r
   target-fits e = record { fits = omega (arith, h .target, e) }
 
 module _ (c : Cell) (t : ℕ) (ch : Channel) (h : SmallChannel (tickChannel c t ch)) (r : ℕ) where
@@ -63,11 +66,11 @@ module _ (c : Cell) (t : ℕ) (ch : Channel) (h : SmallChannel (tickChannel c t 
   unfolding tickChannel
   tick-volume-fits e = record { fits = omega (arith, h .volume, e) }
 
-  pub tick-period-fits : r ≡ tickPeriod c (ch .period) (ch .target) (ch .memory) → Fits w16 r
+  pub tick-period-fits : r ≡ tickPeriod (ch .finetune) c (ch .period) (ch .target) (ch .memory) → Fits w16 r
   unfolding tickChannel
   tick-period-fits e = record { fits = omega (arith, h .period, e) }
 
-pub ruleset channel-fitting = (latched-fits, row-volume-fits, memory-fits, row-period-fits, target-fits, tick-volume-fits, tick-period-fits)
+pub ruleset channel-fitting = (latched-fits, finetune-fits, row-volume-fits, memory-fits, row-period-fits, target-fits, tick-volume-fits, tick-period-fits)
 
 -- of a channel's tick, once its work is done
 pub small-by : (bytes : List ℕ) (c : Cell) (u t : ℕ) (ch : Channel) (k : ℕ) (w : Channel) (s : Start) → Small (voiced bytes c u t ch k) → w ≡ worked bytes c u t ch → s ≡ startFor c u t (w .latched) k → Spellable (commandOf c t w s)

@@ -1,6 +1,6 @@
 -- A channel's work keeps it legal, and its command is legal, for any channel of an accepted file.
 -- Assumes nothing.
-use Prim.Native.Nat.{ℕ, suc, _+_, _-_, _/_, _%_, _≤_, _<_, min}
+use Prim.Native.Nat.{ℕ, _-_, _/_, _%_, _≤_, _<_, min}
 use mathlib.Core.Path.{_≡_, refl, subst}
 use mathlib.Core.Bool.{Bool, true, false, cond}
 use mathlib.Core.List.{List}
@@ -8,17 +8,16 @@ use native.Mathlib.Omega.{arith}
 use borrow.Author.Tests.{eqb-false}
 use borrow.Author.Needs.{zero≤}
 use lib.Dec.{T, eqb, lit<}
-use lib.ListN.{getD}
 use Rattle.laws.specs.Choice.{either}
 use Rattle.laws.specs.Numbers.{cond-le}
-use Rattle.laws.specs.Every.{every-at}
-use Rattle.common.specs.Limits.{loudest, leastPeriod, greatestPeriod, lastByte, between}
-use Rattle.laws.specs.Ranges.{every}
-use Rattle.common.specs.LimitFacts.{between-has, LegalPeriod, cell-period-legal}
-use Rattle.common.specs.LimitFacts.LegalPeriod.{silent, sounding}
+use Rattle.common.specs.Limits.{loudest, lastByte}
+use Rattle.common.specs.LimitFacts.{LegalPeriod, cell-period-legal}
+use Rattle.common.specs.LimitFacts.LegalPeriod.{silent}
+use Rattle.tuning.specs.Table.{lastFinetune}
+use Rattle.tuning.specs.Kept.{tuned-legal, semitones-legal}
 use Rattle.motion.specs.Waves.{lastMemory, wholeWave}
 use Rattle.motion.specs.LegalFacts.{LegalWave}
-use Rattle.motion.specs.Kept.{cond-period, louder-le, softer-le, lowered-legal, raised-legal, towards-legal, vibrated-legal, trembled-le, moved-legal, remembered-le, remembered-period}
+use Rattle.motion.specs.Kept.{cond-period, louder-le, softer-le, lowered-legal, raised-legal, towards-legal, vibrated-legal, trembled-le, moved-legal, remembered-le}
 use Rattle.motion.specs.declared.Wave.{Wave}
 use Rattle.effects.specs.LegalFacts.{LegalChannel, LegalDepths}
 use Rattle.ticks.specs.Legal.{LegalCommand}
@@ -27,9 +26,9 @@ use Rattle.reader.specs.Accept.{Accepted, LegalCell}
 use Rattle.reader.specs.declared.Cell.{Cell}
 use Rattle.effects.specs.Notes.{isNote}
 use Rattle.effects.specs.Wavering.{vibrates, trembles, rowPlace, rowForm, rowWave}
-use Rattle.effects.specs.Work.{latchedBy, givenVolume, rowVolume, givenPeriod, rowPeriod, rowTarget, rowMemory, rowChannel, tickVolume, tickPeriod, tickChannel, worked}
+use Rattle.effects.specs.Work.{latchedBy, givenFinetune, rowFinetune, givenVolume, rowVolume, givenPeriod, rowPeriod, rowTarget, rowMemory, rowChannel, tickVolume, tickPeriod, tickChannel, worked}
 use Rattle.effects.specs.Starts.{still, begun, again, noteStart, effectStart, rowStart, tickStart, startFor}
-use Rattle.effects.specs.Sounded.{periods, lastNote, above, semitones, arpeggio, transposed, arpeggiated, soundedPeriod, soundedVolume}
+use Rattle.effects.specs.Sounded.{arpeggio, transposed, arpeggiated, soundedPeriod, soundedVolume}
 use Rattle.effects.specs.Commands.{commandOf, afterSound, voicedBy, voiced}
 use Rattle.effects.specs.declared.Channel.{Channel}
 use Rattle.effects.specs.declared.Start.{Start}
@@ -38,24 +37,9 @@ use Rattle.effects.specs.declared.Start.{Start}
 smaller-le : (a n : ℕ) → min a n ≤ n
 smaller-le a n = omega arith
 
--- every entry of the 36 periods is a legal period
-abbrev noted : ℕ → Bool
-noted i = between leastPeriod greatestPeriod (getD periods i 0)
-
-all-noted : every noted (suc lastNote) ≡ true
-unfolding every periods
-all-noted = refl
-
-semitones-legal : (p k : ℕ) → LegalPeriod (semitones p k)
-unfolding semitones
-semitones-legal p k =
-    let i = min (above periods p + k) lastNote in
-    let h = between-has leastPeriod greatestPeriod (getD periods i 0) (every-at noted i (suc lastNote) all-noted (omega arith)) in
-    sounding (h .low) (h .high)
-
-transposed-legal : (p k : ℕ) → LegalPeriod p → LegalPeriod (transposed p k)
+transposed-legal : (f p k : ℕ) → f ≤ lastFinetune → LegalPeriod p → LegalPeriod (transposed f p k)
 unfolding transposed
-transposed-legal p k h = search (cond-period, silent, semitones-legal, h)
+transposed-legal f p k l h = search (cond-period, silent, semitones-legal, l, h)
 
 -- ---- a wave, of vibrato and tremolo alike
 high-digit : (n : ℕ) → n ≤ lastByte → n / 16 ≤ lastMemory
@@ -90,14 +74,20 @@ module _ (m : Module) (a : Accepted m) (c : Cell) (lc : LegalCell (sampleCount m
       either (λ (n : ℕ). n ≤ loudest) (eqb (c .sample) 0) v (headerVolume (m .bytes) (c .sample - 1)) (λ e. h)
       (λ e. a .volumes (c .sample - 1) (omega (arith, eqb-false (c .sample) 0 e, lc .sample)))
 
+  finetune-low : (f : ℕ) → f ≤ lastFinetune → rowFinetune (m .bytes) c f ≤ lastFinetune
+  unfolding rowFinetune givenFinetune
+  finetune-low f h = search (cond-le, low-digit, h)
+
   row-legal : (ch : Channel) → LegalChannel (sampleCount m) ch → LegalChannel (sampleCount m) (rowChannel (m .bytes) c ch)
   unfolding rowChannel latchedBy rowVolume givenPeriod rowPeriod rowTarget rowMemory
   row-legal ch l =
+      let f = finetune-low (ch .finetune) (l .finetune) in
       record {
         latched = search (cond-le, lc, l);
+        finetune = f;
         volume = search (cond-le, louder-le, softer-le, smaller-le, zero≤, given-legal, l) depth 9;
-        period = search (cond-period, lowered-legal, raised-legal, noted-period, l) depth 9;
-        target = remembered-period _ _ _ noted-period (l .target);
+        period = search (cond-period, lowered-legal, raised-legal, tuned-legal, noted-period, f, l) depth 9;
+        target = search (cond-period, tuned-legal, noted-period, f, l);
         memory = remembered-le _ _ _ _ b (l .memory);
         vibrato = row-wave-legal _ _ c (ch .vibrato) b (l .vibrato);
         tremolo = row-wave-legal _ _ c (ch .tremolo) b (l .tremolo);
@@ -108,6 +98,7 @@ module _ (m : Module) (a : Accepted m) (c : Cell) (lc : LegalCell (sampleCount m
   tick-legal t ch l =
       record {
         latched = l .latched;
+        finetune = l .finetune;
         volume = search (cond-le, louder-le, softer-le, zero≤, l) depth 9;
         period = search (cond-period, lowered-legal, raised-legal, towards-legal, l) depth 9;
         target = l .target;
@@ -135,19 +126,21 @@ volume-legal : (c : Cell) (t : ℕ) (ch : Channel) → ch .volume ≤ loudest �
 unfolding soundedVolume
 volume-legal c t ch h = cond-le loudest (trembles c t) _ _ (trembled-le (ch .tremolo) (ch .volume) h) h
 
-arpeggiated-legal : (c : Cell) (t p : ℕ) → LegalPeriod p → LegalPeriod (arpeggiated c t p)
+arpeggiated-legal : (c : Cell) (t f p : ℕ) → f ≤ lastFinetune → LegalPeriod p → LegalPeriod (arpeggiated c t f p)
 unfolding arpeggiated
-arpeggiated-legal c t p h = transposed-legal p (arpeggio c t) h
+arpeggiated-legal c t f p l h = transposed-legal f p (arpeggio c t) l h
 
-period-legal : (c : Cell) (t : ℕ) (ch : Channel) → LegalPeriod (ch .period) → LegalPeriod (soundedPeriod c t ch)
+period-legal : (c : Cell) (t : ℕ) (ch : Channel) → ch .finetune ≤ lastFinetune → LegalPeriod (ch .period) → LegalPeriod (soundedPeriod c t ch)
 unfolding soundedPeriod
-period-legal c t ch h = cond-period (vibrates c t) _ _ (vibrated-legal (ch .vibrato) (ch .period) h) (arpeggiated-legal c t (ch .period) h)
+period-legal c t ch l h =
+    cond-period (vibrates c t) _ _ (vibrated-legal (ch .finetune) (ch .vibrato) (ch .period) l h) (arpeggiated-legal c t (ch .finetune) (ch .period) l h)
 
 after-legal : (last : ℕ) (c : Cell) (t : ℕ) (ch : Channel) → LegalChannel last ch → LegalChannel last (afterSound c t ch)
 unfolding afterSound
 after-legal last c t ch l =
     record {
       latched = l .latched;
+      finetune = l .finetune;
       volume = l .volume;
       period = l .period;
       target = l .target;
@@ -195,7 +188,7 @@ module _ (m : Module) (a : Accepted m) (c : Cell) (lc : LegalCell (sampleCount m
       record {
         sample = s .sample;
         volume = volume-legal c t _ (w .volume);
-        period = period-legal c t _ (w .period);
+        period = period-legal c t _ (w .finetune) (w .period);
         offset = s .offset;
         stays = s .stays;
         plain = s .plain;

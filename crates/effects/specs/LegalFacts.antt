@@ -10,14 +10,16 @@ use Rattle.common.specs.Limits.{loudest, lastByte}
 use Rattle.laws.specs.Ranges.{all, allFrom}
 use Rattle.common.specs.LimitFacts.{period-has, period-by, LegalPeriod}
 use Rattle.common.specs.LimitFacts.LegalPeriod.{silent}
+use Rattle.tuning.specs.Table.{lastFinetune}
 use Rattle.motion.specs.Waves.{freshWave, lastMemory}
 use Rattle.motion.specs.LegalFacts.{fresh-wave-has, fresh-wave-by, wave-has, wave-by, fresh-wave-legal, LegalWave}
 use Rattle.effects.specs.Legal.{freshChannel, isFresh, legalChannel}
 use Rattle.effects.specs.declared.Channel.{Channel}
 
--- samples to the last, volumes to 64, periods and target 0 or 113 to 856, memory to 255, legal waves
+-- samples to the last, finetunes to 15, volumes to 64, periods and target 0 or 108 to 907, memory to 255, legal waves
 pub record LegalChannel (last : ℕ) (ch : Channel) : Type 0 where
   pub latched : ch .latched ≤ last
+  pub finetune : ch .finetune ≤ lastFinetune
   pub volume : ch .volume ≤ loudest
   pub period : LegalPeriod (ch .period)
   pub target : LegalPeriod (ch .target)
@@ -36,12 +38,13 @@ fresh-has ch e =
     let h = all-at _ e in
     rw (
       eqb-true (ch .latched) 0 (h 0),
-      eqb-true (ch .volume) 0 (h 1),
-      eqb-true (ch .period) 0 (h 2),
-      eqb-true (ch .target) 0 (h 3),
-      eqb-true (ch .memory) 0 (h 4),
-      fresh-wave-has (ch .vibrato) (h 5),
-      fresh-wave-has (ch .tremolo) (h 6),
+      eqb-true (ch .finetune) 0 (h 1),
+      eqb-true (ch .volume) 0 (h 2),
+      eqb-true (ch .period) 0 (h 3),
+      eqb-true (ch .target) 0 (h 4),
+      eqb-true (ch .memory) 0 (h 5),
+      fresh-wave-has (ch .vibrato) (h 6),
+      fresh-wave-has (ch .tremolo) (h 7),
     )
 
 pub fresh-by : (ch : Channel) → ch ≡ freshChannel → isFresh ch ≡ true
@@ -54,20 +57,21 @@ channel-has last ch e =
     let h = all-at _ e in
     record {
       latched = leb-true (ch .latched) last (h 0);
-      volume = leb-true (ch .volume) loudest (h 1);
-      period = period-has (ch .period) (h 2);
-      target = period-has (ch .target) (h 3);
-      memory = leb-true (ch .memory) lastByte (h 4);
-      vibrato = wave-has (ch .vibrato) (h 5);
-      tremolo = wave-has (ch .tremolo) (h 6);
+      finetune = leb-true (ch .finetune) lastFinetune (h 1);
+      volume = leb-true (ch .volume) loudest (h 2);
+      period = period-has (ch .period) (h 3);
+      target = period-has (ch .target) (h 4);
+      memory = leb-true (ch .memory) lastByte (h 5);
+      vibrato = wave-has (ch .vibrato) (h 6);
+      tremolo = wave-has (ch .tremolo) (h 7);
     }
 
 pub channel-by : (last : ℕ) (ch : Channel) → LegalChannel last ch → legalChannel last ch ≡ true
 unfolding legalChannel Each
 channel-by last ch h =
     all-by _
-    (le-leb _ _ (h .latched), (le-leb _ _ (h .volume), (period-by _ (h .period), (period-by _ (h .target), (le-leb _ _ (h .memory), (wave-by _ (h .vibrato), (wave-by _ (h .tremolo), tt)))))))
+    (le-leb _ _ (h .latched), (le-leb _ _ (h .finetune), (le-leb _ _ (h .volume), (period-by _ (h .period), (period-by _ (h .target), (le-leb _ _ (h .memory), (wave-by _ (h .vibrato), (wave-by _ (h .tremolo), tt))))))))
 
 -- a fresh channel is legal
 pub fresh-channel-legal : (last : ℕ) → LegalChannel last freshChannel
-fresh-channel-legal last = record { latched = zero≤; volume = zero≤; period = silent; target = silent; memory = zero≤; vibrato = fresh-wave-legal; tremolo = fresh-wave-legal }
+fresh-channel-legal last = record { latched = zero≤; finetune = zero≤; volume = zero≤; period = silent; target = silent; memory = zero≤; vibrato = fresh-wave-legal; tremolo = fresh-wave-legal }

@@ -1,4 +1,4 @@
--- What recurs in the rules of the effects: whether a cell has a note, whether it slides towards a target, and the two digits of its
+-- What recurs in the rules of the effects: whether a cell has a note, or a target, whether it slides towards one, and the two digits of its
 -- parameter.
 -- Assumes nothing.
 use Prim.Native.Nat.{ℕ, _/_, _%_}
@@ -20,3 +20,7 @@ isPortamento c = eqb (c .effect) 0x03 || eqb (c .effect) 0x05
 -- a period without these
 unfoldable pub isNote : Cell → Bool
 isNote c = not (eqb (c .period) 0) && not (eqb (c .effect) 0x03) && not (eqb (c .effect) 0x05)
+
+-- a period with one of these
+unfoldable pub isTarget : Cell → Bool
+isTarget c = not (eqb (c .period) 0) && isPortamento c

@@ -11,14 +11,15 @@ use Rattle.ticks.specs.Legal.{Spellable, period-small}
 use Rattle.reader.specs.declared.Cell.{Cell}
 use Rattle.effects.specs.LegalFacts.{LegalChannel}
 use Rattle.effects.specs.Work.{rowChannel, tickChannel, worked}
-use Rattle.effects.specs.Untouched.{rowNumbers}
+use Rattle.effects.specs.Untouched.{rowSample, rowPeriods, rowNumbers}
 use Rattle.effects.specs.Commands.{afterSound, voicedBy, voiced}
 use Rattle.effects.specs.declared.Channel.{Channel}
 use Rattle.effects.specs.declared.Voiced.{Voiced}
 
--- latched sample, volume and memory are bytes, period and target two
+-- latched sample, finetune, volume and memory are bytes, period and target two
 pub record SmallChannel (ch : Channel) : Type 0 where
   pub latched : ch .latched ≤ lastByte
+  pub finetune : ch .finetune ≤ lastByte
   pub volume : ch .volume ≤ lastByte
   pub memory : ch .memory ≤ lastByte
   pub period : ch .period ≤ lastWord
@@ -33,6 +34,7 @@ pub channel-small : (last : ℕ) (ch : Channel) → last ≤ lastByte → LegalC
 channel-small last ch h l =
     record {
       latched = omega (arith, l .latched);
+      finetune = omega (arith, l .finetune);
       volume = omega (arith, l .volume);
       memory = l .memory;
       period = period-small (ch .period) (l .period);
@@ -43,7 +45,7 @@ channel-small last ch h l =
 module _ (bytes : List ℕ) (c : Cell) (u t : ℕ) (ch : Channel) where
   pub worked-small : (k : ℕ) → Small (voiced bytes c u t ch k) → SmallChannel (worked bytes c u t ch)
   unfolding voiced voicedBy afterSound
-  worked-small k h = let s = h .channel in record { latched = s .latched; volume = s .volume; memory = s .memory; period = s .period; target = s .target }
+  worked-small k h = let s = h .channel in record { latched = s .latched; finetune = s .finetune; volume = s .volume; memory = s .memory; period = s .period; target = s .target }
 
   module _ (h : SmallChannel (worked bytes c u t ch)) where
     pub row-small : u ≡ 0 → SmallChannel (rowChannel bytes c ch)
@@ -54,5 +56,10 @@ module _ (bytes : List ℕ) (c : Cell) (u t : ℕ) (ch : Channel) where
     unfolding worked
     tick-small e z = rw (ne-eqb u 0 e, ne-eqb t 0 z) at h
 
+-- of a channel whose sample's work is done
+pub periods-small : (bytes : List ℕ) (c : Cell) (ch r : Channel) → SmallChannel (rowNumbers bytes c ch) → r ≡ rowSample bytes c ch → SmallChannel (rowPeriods c r)
+unfolding rowChannel
+periods-small bytes c ch r s e = rw e s
+
 pub numbers-small : (bytes : List ℕ) (c : Cell) (ch : Channel) → SmallChannel (rowChannel bytes c ch) → SmallChannel (rowNumbers bytes c ch)
-numbers-small bytes c ch s = record { latched = s .latched; volume = s .volume; memory = s .memory; period = s .period; target = s .target }
+numbers-small bytes c ch s = record { latched = s .latched; finetune = s .finetune; volume = s .volume; memory = s .memory; period = s .period; target = s .target }

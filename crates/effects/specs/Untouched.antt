@@ -11,8 +11,36 @@ use Rattle.motion.specs.Waves.{remembered}
 use Rattle.motion.specs.declared.Wave.{Wave}
 use Rattle.effects.specs.Notes.{isNote}
 use Rattle.effects.specs.Wavering.{rowPlace, rowForm, rowWave}
-use Rattle.effects.specs.Work.{rowChannel}
+use Rattle.effects.specs.Work.{latchedBy, rowFinetune, givenVolume, rowVolume, givenPeriod, rowPeriod, rowTarget, rowMemory, rowChannel}
 use Rattle.effects.specs.declared.Channel.{Channel}
+
+-- the channel after the row's work on its sample and volume
+abbrev pub rowSample : List ℕ → Cell → Channel → Channel
+rowSample bytes c ch =
+    record {
+      latched = latchedBy c (ch .latched);
+      finetune = rowFinetune bytes c (ch .finetune);
+      volume = rowVolume c (givenVolume bytes c (ch .volume));
+      period = ch .period;
+      target = ch .target;
+      memory = rowMemory c (ch .memory);
+      vibrato = ch .vibrato;
+      tremolo = ch .tremolo;
+    }
+
+-- and on its period and target, by the finetune that it has then
+abbrev pub rowPeriods : Cell → Channel → Channel
+rowPeriods c ch =
+    record {
+      latched = ch .latched;
+      finetune = ch .finetune;
+      volume = ch .volume;
+      period = rowPeriod (ch .finetune) c (givenPeriod (ch .finetune) c (ch .period));
+      target = rowTarget (ch .finetune) c (ch .target);
+      memory = ch .memory;
+      vibrato = ch .vibrato;
+      tremolo = ch .tremolo;
+    }
 
 -- the channel after the row's work, its waves as they were
 abbrev pub rowNumbers : List ℕ → Cell → Channel → Channel
@@ -20,6 +48,7 @@ rowNumbers bytes c ch =
     let after = rowChannel bytes c ch in
     record {
       latched = after .latched;
+      finetune = after .finetune;
       volume = after .volume;
       period = after .period;
       target = after .target;

@@ -7,6 +7,7 @@ use common::limits::LOUDEST;
 use common::limits::is_period;
 use motion::legal::is_fresh_wave;
 use motion::legal::legal_wave;
+use tuning::LAST_FINETUNE;
 
 pub fn is_fresh(channel: Channel) -> bool
     ensures { λ r. ⌜ r ≡ isFresh channel ⌝ }
@@ -14,6 +15,7 @@ pub fn is_fresh(channel: Channel) -> bool
     let vibrato = is_fresh_wave(channel.vibrato);
     let tremolo = is_fresh_wave(channel.tremolo);
     (channel.latched == 0)
+        & (channel.finetune == 0)
         & (channel.volume == 0)
         & (channel.period == 0)
         & (channel.target == 0)
@@ -30,6 +32,7 @@ pub fn legal_channel(last: u32, channel: Channel) -> bool
     let vibrato = legal_wave(channel.vibrato);
     let tremolo = legal_wave(channel.tremolo);
     (channel.latched as u32 <= last)
+        & (channel.finetune as u32 <= LAST_FINETUNE)
         & (channel.volume as u32 <= LOUDEST)
         & period
         & target

@@ -13,7 +13,8 @@ use Rattle.reader.specs.Judge.{cellLines, restLines, verdict, tagged, badLength
 use Rattle.reader.specs.Cells.{cellFrom, cellAt}
 use Rattle.effects.specs.Notes.{isNote}
 use Rattle.effects.specs.Starts.{noteStart, effectStart, rowStart, startFor}
-use Rattle.effects.specs.Work.{latchedBy, givenVolume, rowVolume, givenPeriod, rowPeriod, rowChannel, worked}
+use Rattle.tuning.specs.Tuned.{tuned}
+use Rattle.effects.specs.Work.{latchedBy, givenFinetune, rowFinetune, givenVolume, rowVolume, givenPeriod, rowPeriod, rowChannel, worked}
 use Rattle.effects.specs.Wavering.{vibrates, trembles}
 use Rattle.effects.specs.Sounded.{arpeggio, transposed, arpeggiated, soundedPeriod, soundedVolume}
 use Rattle.effects.specs.Commands.{commandOf, voicedBy, voiced}
@@ -63,7 +64,7 @@ unfolding withCell channelsOf fourAt verdict restLines cellLines refusing some t
 mk-accepted = (refl, refl)
 
 mk-streams : Streams MK 4
-unfolding withCell channelsOf fourAt each partly cellFrom cellAt isNote noteStart effectStart rowStart startFor latchedBy givenVolume rowVolume givenPeriod rowPeriod rowChannel worked vibrates trembles arpeggio transposed arpeggiated soundedPeriod soundedVolume commandOf voicedBy voiced
+unfolding withCell channelsOf fourAt each partly cellFrom cellAt isNote noteStart effectStart rowStart startFor latchedBy tuned givenFinetune rowFinetune givenVolume rowVolume givenPeriod rowPeriod rowChannel worked vibrates trembles arpeggio transposed arpeggiated soundedPeriod soundedVolume commandOf voicedBy voiced
     rowTempo rowTime rowFlow flowFrom flowThrough freshSong songBy songWork voicedOn allVoiced tickWith tickOf ticksFrom
     fourBytes atFirst changed mask commandBytes channelBytes channelsBytes recordBytes records shift countByte streamHeader encodeAfter
 mk-streams = (refl, refl)
@@ -73,7 +74,7 @@ unfolding withCell channelsOf fourAt verdict restLines cellLines refusing some t
 six-accepted = (refl, refl)
 
 six-streams : Streams (CHN 0x36) 6
-unfolding withCell channelsOf fourAt each partly cellFrom cellAt isNote noteStart effectStart rowStart startFor latchedBy givenVolume rowVolume givenPeriod rowPeriod rowChannel worked vibrates trembles arpeggio transposed arpeggiated soundedPeriod soundedVolume commandOf voicedBy voiced
+unfolding withCell channelsOf fourAt each partly cellFrom cellAt isNote noteStart effectStart rowStart startFor latchedBy tuned givenFinetune rowFinetune givenVolume rowVolume givenPeriod rowPeriod rowChannel worked vibrates trembles arpeggio transposed arpeggiated soundedPeriod soundedVolume commandOf voicedBy voiced
     rowTempo rowTime rowFlow flowFrom flowThrough freshSong songBy songWork voicedOn allVoiced tickWith tickOf ticksFrom
     fourBytes atFirst changed mask commandBytes channelBytes channelsBytes recordBytes records shift countByte streamHeader encodeAfter
 six-streams = (refl, refl)
@@ -83,7 +84,7 @@ unfolding withCell channelsOf fourAt verdict restLines cellLines refusing some t
 eight-accepted = (refl, refl)
 
 eight-streams : Streams (CHN 0x38) 8
-unfolding withCell channelsOf fourAt each partly cellFrom cellAt isNote noteStart effectStart rowStart startFor latchedBy givenVolume rowVolume givenPeriod rowPeriod rowChannel worked vibrates trembles arpeggio transposed arpeggiated soundedPeriod soundedVolume commandOf voicedBy voiced
+unfolding withCell channelsOf fourAt each partly cellFrom cellAt isNote noteStart effectStart rowStart startFor latchedBy tuned givenFinetune rowFinetune givenVolume rowVolume givenPeriod rowPeriod rowChannel worked vibrates trembles arpeggio transposed arpeggiated soundedPeriod soundedVolume commandOf voicedBy voiced
     rowTempo rowTime rowFlow flowFrom flowThrough freshSong songBy songWork voicedOn allVoiced tickWith tickOf ticksFrom
     fourBytes atFirst changed mask commandBytes channelBytes channelsBytes recordBytes records shift countByte streamHeader encodeAfter
 eight-streams = (refl, refl)

@@ -1,1 +1,2 @@
 pub mod Waving
+pub mod Sliding

@@ -3,12 +3,14 @@
 use Prim.Native.Nat.{ℕ, _+_, _-_, _%_, _≤_, _<_, min, max}
 use mathlib.Core.Bool.{Bool, cond}
 use native.Mathlib.Omega.{arith}
-use lib.Dec.{lit≤}
+use lib.Dec.{eqb}
 use Rattle.laws.specs.Choice.{either}
 use Rattle.laws.specs.Numbers.{cond-le}
 use Rattle.common.specs.Limits.{loudest, leastPeriod, greatestPeriod}
 use Rattle.common.specs.LimitFacts.{LegalPeriod}
 use Rattle.common.specs.LimitFacts.LegalPeriod.{silent, sounding}
+use Rattle.tuning.specs.Table.{lastFinetune}
+use Rattle.tuning.specs.Kept.{kept-legal}
 use Rattle.motion.specs.Slides.{lowered, raised, towards, louder, softer}
 use Rattle.motion.specs.Waves.{wholeWave, isRaising, wavered, vibratoDivisor, vibrated, tremoloDivisor, trembled, moved, remembered}
 use Rattle.motion.specs.LegalFacts.{LegalWave}
@@ -33,15 +35,13 @@ min-period p d t a b e = in-range _ (omega arith) (omega arith)
 max-period : (p d t : ℕ) → p ≤ greatestPeriod → leastPeriod ≤ t → t ≤ greatestPeriod → LegalPeriod (max (p - d) t)
 max-period p d t a b e = in-range _ (omega arith) (omega arith)
 
-pub lowered-legal : (p d : ℕ) → LegalPeriod p → LegalPeriod (lowered p d)
+pub lowered-legal : (f p d : ℕ) → f ≤ lastFinetune → LegalPeriod (lowered f p d)
 unfolding lowered
-lowered-legal p d silent = silent
-lowered-legal p d (sounding a b) = search (cond-period, silent, max-period, lit≤)
+lowered-legal f p d h = cond-period (eqb p 0) 0 _ silent (kept-legal f h (p - d))
 
-pub raised-legal : (p d : ℕ) → LegalPeriod p → LegalPeriod (raised p d)
+pub raised-legal : (f p d : ℕ) → f ≤ lastFinetune → LegalPeriod (raised f p d)
 unfolding raised
-raised-legal p d silent = silent
-raised-legal p d (sounding a b) = search (cond-period, silent, min-period, lit≤)
+raised-legal f p d h = cond-period (eqb p 0) 0 _ silent (kept-legal f h (p + d))
 
 pub towards-legal : (p t d : ℕ) → LegalPeriod p → LegalPeriod t → LegalPeriod (towards p t d)
 unfolding towards
@@ -54,8 +54,8 @@ wavered-keeps : (P : ℕ → Type 0) (up down : ℕ → ℕ → ℕ) → ((n d :
 unfolding wavered
 wavered-keeps P up down f g divisor w n h = either P (isRaising (w .place)) _ _ (λ e. f n _ h) (λ e. g n _ h)
 
-pub vibrated-legal : (w : Wave) (p : ℕ) → LegalPeriod p → LegalPeriod (vibrated w p)
-vibrated-legal w p h = wavered-keeps LegalPeriod raised lowered raised-legal lowered-legal vibratoDivisor w p h
+pub vibrated-legal : (f : ℕ) (w : Wave) (p : ℕ) → f ≤ lastFinetune → LegalPeriod p → LegalPeriod (vibrated f w p)
+vibrated-legal f w p l h = wavered-keeps LegalPeriod (raised f) (lowered f) (λ n d k. raised-legal f n d l) (λ n d k. lowered-legal f n d l) vibratoDivisor w p h
 
 pub trembled-le : (w : Wave) (v : ℕ) → v ≤ loudest → trembled w v ≤ loudest
 trembled-le w v h = wavered-keeps (λ (n : ℕ). n ≤ loudest) louder softer (λ n d l. louder-le n d) softer-le tremoloDivisor w v h
@@ -71,7 +71,3 @@ moved-legal used w l = either LegalWave used _ _ (λ e. record { x = l .x; y = l
 pub remembered-le : (k : ℕ) (given : Bool) (n old : ℕ) → n ≤ k → old ≤ k → remembered given n old ≤ k
 unfolding remembered
 remembered-le k given n old h l = search (cond-le, h, l)
-
-pub remembered-period : (given : Bool) (n old : ℕ) → LegalPeriod n → LegalPeriod old → LegalPeriod (remembered given n old)
-unfolding remembered
-remembered-period given n old h l = search (cond-period, h, l)

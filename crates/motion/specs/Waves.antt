@@ -75,12 +75,12 @@ offsetSize divisor w = entrySize (w .form) (w .place) * w .y / divisor
 unfoldable pub wavered : (ℕ → ℕ → ℕ) → (ℕ → ℕ → ℕ) → ℕ → Wave → ℕ → ℕ
 wavered up down divisor w n = cond (isRaising (w .place)) (up n (offsetSize divisor w)) (down n (offsetSize divisor w))
 
--- vibrato: a period by div 128, kept in 113 to 856; a period of 0 stays 0
+-- vibrato: a period by div 128, kept between the first and last entries of the finetune's row; a period of 0 stays 0
 abbrev pub vibratoDivisor : ℕ
 vibratoDivisor = 128
 
-abbrev pub vibrated : Wave → ℕ → ℕ
-vibrated = wavered raised lowered vibratoDivisor
+abbrev pub vibrated : ℕ → Wave → ℕ → ℕ
+vibrated f = wavered (raised f) (lowered f) vibratoDivisor
 
 -- tremolo: a volume by div 64, kept in 0 to 64
 abbrev pub tremoloDivisor : ℕ

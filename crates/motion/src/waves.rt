@@ -108,15 +108,15 @@ fn offset_size(divisor: u32, wave: Wave) -> u32
 }
 
 // A period under vibrato.
-pub fn vibrated(wave: Wave, period: u32) -> u32
+pub fn vibrated(finetune: u32, wave: Wave, period: u32) -> u32
     requires depth { ⌜ wave .y ≤ lastMemory ⌝ }
-    ensures { λ r. ⌜ r ≡ vibrated wave period ⌝ }
+    ensures { λ r. ⌜ r ≡ vibrated finetune wave period ⌝ }
 {
     let by = offset_size(VIBRATO_DIVISOR, wave);
     if is_raising(wave.place as u32) {
-        raised(period, by)
+        raised(finetune, period, by)
     } else {
-        lowered(period, by)
+        lowered(finetune, period, by)
     }
 }
 

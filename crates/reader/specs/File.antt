@@ -1,7 +1,7 @@
 -- The file: its layout, and where its parts lie. Offsets in bytes from 0, two-byte numbers high byte first.
 -- What follows from the number of samples, the tag and the number of channels is named here and nowhere else.
 -- Assumes nothing.
-use Prim.Native.Nat.{ℕ, _+_, _*_, _/_}
+use Prim.Native.Nat.{ℕ, _+_, _*_, _/_, _%_}
 use mathlib.Core.Bool.{cond, _||_}
 use mathlib.Core.List.{List}
 use lib.Dec.{eqb}
@@ -78,9 +78,12 @@ channelCount m = m .layout .channels
 abbrev pub headerAt : ℕ → ℕ
 headerAt k = 20 + 30 * k
 
--- length in words at +22, volume +25, repeat start +26 and repeat length +28 in words
+-- length in words at +22, finetune +24 (low four bits), volume +25, repeat start +26 and repeat length +28 in words
 abbrev pub sampleWords : List ℕ → ℕ → ℕ
 sampleWords xs k = wordAt xs (headerAt k + 22)
+
+abbrev pub headerFinetune : List ℕ → ℕ → ℕ
+headerFinetune xs k = byteAt xs (headerAt k + 24) % 16
 
 abbrev pub volumePlace : ℕ → ℕ
 volumePlace k = headerAt k + 25

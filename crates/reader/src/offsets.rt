@@ -12,8 +12,10 @@ pub const HEADERS_AT: usize = 20;
 
 pub const HEADER_BYTES: usize = 30;
 
-// Places in a header: its sample's length, volume, repeat start and repeat length.
+// Places in a header: its sample's length, finetune, volume, repeat start and repeat length.
 pub const LENGTH_AT: usize = 22;
+
+pub const FINETUNE_AT: usize = 24;
 
 pub const VOLUME_AT: usize = 25;
 

@@ -1,7 +1,7 @@
-// What the sequencer reads of a file: the song length, a cell, a sample's header volume.
+// What the sequencer reads of a file: the song length, a cell, a sample's header volume and finetune.
 ghost use mathlib.Core.Path.{_≡_};
 ghost use Prim.Native.Nat.{_+_, _-_, _*_, _<_, _^_};
-ghost use Rattle.reader.specs.File.{lent, songLength, headerVolume};
+ghost use Rattle.reader.specs.File.{lent, songLength, headerFinetune, headerVolume};
 ghost use Rattle.reader.specs.Judge.{verdict};
 ghost use Rattle.common.specs.ByteLaws.{Bytes};
 ghost use Rattle.reader.specs.Cells.{effectOf, cellOf, cellFrom, rowOffset};
@@ -10,6 +10,7 @@ ghost use Rattle.reader.specs.Layouts.{LegalLayout};
 use crate::Cell;
 use crate::Layout;
 use crate::offsets::CELL_BYTES;
+use crate::offsets::FINETUNE_AT;
 use crate::offsets::HEADER_BYTES;
 use crate::offsets::HEADERS_AT;
 use crate::offsets::VOLUME_AT;
@@ -101,4 +102,16 @@ pub fn header_volume(file: &[u8], k: u32) -> u32
         file,
         HEADERS_AT + HEADER_BYTES * (k - 1) as usize + VOLUME_AT,
     )
+}
+
+// The finetune of the header of sample number k, from 1: 0 to 15, 8 to 15 meaning -8 to -1.
+pub fn header_finetune(file: &[u8], k: u32) -> u32
+    requires { ⌜ 0 < k ⌝ }
+    ensures { λ r. ⌜ r ≡ headerFinetune (now (file .entry)) (k - 1) ⌝ }
+{
+    byte(
+        file,
+        HEADERS_AT + HEADER_BYTES * (k - 1) as usize + FINETUNE_AT,
+    )
+        % 16
 }

@@ -60,11 +60,12 @@ pub struct Desk {
     pub page: u32,
 }
 
-// The song's state, with the channels' own numbers.
+// The song's state, with the channels' own numbers. The desk, which a tick passes by, does not stand beside the channels: they are copied alone then,
+// 128 bytes in place, where 136 would be copied by a call.
 pub struct Song {
+    pub desk: Desk,
     pub course: Course,
     pub time: Time,
-    pub desk: Desk,
     pub channels: [Channel; WIDTH],
 }
 

@@ -102,13 +102,17 @@ module _ (end : ℕ) (v : Voice) (l : LegalSound end v) (e : silentOf v ≡ fals
   pub loud-fraction : v .fraction < fractions
   loud-fraction = l .running (loud-has v e .0) .1 .1
 
--- the fraction grows by less than a byte
-pub growth-small : (p : ℕ) → leastPeriod ≤ p → growthOf p < fractions
+-- from a period of 74 on, a step stays below one byte
+pub step-below : (p : ℕ) → 74 ≤ p → growthOf p < fractions
 unfolding growthOf
-growth-small p h =
+step-below p h =
     let n : 0 < rateTenths * p = omega arith in
     let m : palClock * fractions < fractions * (rateTenths * p) = omega arith in
     div-lt-iff-lt-mul n .1 m
+
+-- so it does at every legal period
+pub growth-small : (p : ℕ) → leastPeriod ≤ p → growthOf p < fractions
+growth-small p h = step-below p (omega arith)
 
 -- ---- legality
 pub fresh-legal : (last end : ℕ) → LegalVoice last end freshVoice

@@ -27,7 +27,7 @@ use Rattle.common.specs.LimitFacts.{LegalPeriod, period-has, period-by}
 use Rattle.ticks.specs.Commands.{nothing}
 
 -- ---- as facts
--- beside a sample with this end: volumes to 64, periods 0 or 113 to 856; stopped with index and fraction 0, or with a sample, index below its end and fraction to 65,535
+-- beside a sample with this end: volumes to 64, periods 0 or 108 to 907; stopped with index and fraction 0, or with a sample, index below its end and fraction to 65,535
 pub record LegalSound (end : ℕ) (v : Voice) : Type 0 where
   pub volume : v .volume ≤ loudest
   pub period : LegalPeriod (v .period)

@@ -1,4 +1,4 @@
--- Period 0 divides by 0, which is 0 in the definition; any other legal period is at least 113.
+-- Period 0 divides by 0, which is 0 in the definition; any other legal period is at least 108.
 use borrow.Author.Needs.{needs}
 use Rattle.voice.specs.Kept.{period-low}
 use Rattle.voice.proofs.Voices.{rate-none}

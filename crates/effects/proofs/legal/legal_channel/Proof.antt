@@ -19,4 +19,5 @@ legal-channel-spec =
     (λ c. search needs)
     (λ c. search needs)
     (λ c. search needs)
-    (λ c. rw (c .before .before .before .legal-wave2 .ensures, c .before .before .before .before .legal-wave .ensures, c .before .before .before .before .before .is-period2 .ensures, c .before .before .before .before .before .before .before .is-period .ensures)))
+    (λ c. search needs)
+    (λ c. rw (c .before .before .before .before .legal-wave2 .ensures, c .before .before .before .before .before .legal-wave .ensures, c .before .before .before .before .before .before .is-period2 .ensures, c .before .before .before .before .before .before .before .before .is-period .ensures)))

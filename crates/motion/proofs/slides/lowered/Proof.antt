@@ -1,18 +1,17 @@
--- A period of 0 stays. The difference is formed only where something is left of it, and the tests say on which side of the limit it lies.
+-- A period of 0 stays; any other is kept in the row.
 use Rattle.laws.specs.Tests.{tests}
-use Rattle.laws.specs.Numbers.{limits}
 use Rattle.motion.specs.Slides.{lowered}
+use Rattle.motion.proofs.Sliding.{lowered-by}
 use borrow.Author.Needs.{needs}
 use Rattle.motion.proofs.slides.lowered.Statement.{statement}
 use Rattle.motion.proofs.slides.lowered.Tie as tie
 
-pub lowered-spec : {M : Type 1} → statement M
+returns : tie.Need-returns
 unfolding lowered
-lowered-spec =
-    tie.close
-    (tie.spec
-    (λ c. search (tests, limits, needs))
-    (λ c. search needs)
-    (λ c. search (tests, limits, needs))
-    (λ c. search (tests, limits, needs))
-    (λ c. search (tests, limits, needs)))
+returns c = search (tests, needs)
+
+returns-2 : tie.Need-returns-2
+returns-2 c = search (lowered-by, needs)
+
+pub lowered-spec : {M : Type 1} → statement M
+lowered-spec = tie.close (tie.spec returns (λ c κs. search needs) (λ c κs. search needs) returns-2)

@@ -1,0 +1,5 @@
+pub mod Table
+pub mod Ends
+pub mod Tuned
+pub mod Rules
+pub mod Kept
