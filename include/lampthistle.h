@@ -49,6 +49,12 @@
    LAMPTHISTLE_CHANNELS channels. A module has as many as its tag names: 4 for M.K. and 4CHN, 6 for 6CHN, 8 for 8CHN, as
    lampthistle_channels says. In a state for it the channels past these are as in a fresh one; with anything else there it is refused.
 
+   FINETUNE
+   A channel has a finetune, -8 to 7, in eighths of a semitone: that of the sample that it latched last, or what effect E5 set after that.
+   Its notes, slides, vibrato and arpeggio go by the finetune's own row of 36 periods. So a period of a state or a stream is 0 or 108 to
+   907, while one in a cell of a file is 0 or 113 to 856. In a state the finetune is a 32-bit number in two's complement, 4,294,967,288 for
+   -8; a state with another than -8 to 7 is refused (14).
+
    VERSIONS
    Cells, refusals and calls are the same in all versions that differ in their last number alone. Otherwise they may differ: then this
    header and the archive do not fit together, and a state that was stored by the one version is no state of the other, even where 14
@@ -84,18 +90,18 @@ extern "C" {
 #endif
 
 #define LAMPTHISTLE_VERSION_MAJOR 0
-#define LAMPTHISTLE_VERSION_MINOR 6
+#define LAMPTHISTLE_VERSION_MINOR 7
 #define LAMPTHISTLE_VERSION_PATCH 0
 /* This header's version as one number, and as text. */
 #define LAMPTHISTLE_VERSION (1000000 * LAMPTHISTLE_VERSION_MAJOR + 1000 * LAMPTHISTLE_VERSION_MINOR + LAMPTHISTLE_VERSION_PATCH)
-#define LAMPTHISTLE_VERSION_TEXT "0.6.0"
+#define LAMPTHISTLE_VERSION_TEXT "0.7.0"
 /* Whether cells, refusals and calls of a version are those of this header. */
 #define LAMPTHISTLE_SAME_CELLS(version) ((version) / 1000 == LAMPTHISTLE_VERSION / 1000)
 
 #define LAMPTHISTLE_RATE 48000
 /* The channels of a state, and the most that a module has; lampthistle_channels says how many one has. */
 #define LAMPTHISTLE_CHANNELS 8
-#define LAMPTHISTLE_STATE_CELLS 165
+#define LAMPTHISTLE_STATE_CELLS 173
 /* The most numbers that one tick takes: 3,750 frames at tempo 32. */
 #define LAMPTHISTLE_TICK_NUMBERS 7500
 /* The sides of a frame of floats. */
@@ -238,6 +244,7 @@ enum lampthistle_cell {
    lampthistle_form. */
 enum lampthistle_channel_cell {
     LAMPTHISTLE_LATCHED_SAMPLE,
+    LAMPTHISTLE_FINETUNE, /* -8 to 7, as a 32-bit number in two's complement */
     LAMPTHISTLE_VOLUME,
     LAMPTHISTLE_PERIOD,
     LAMPTHISTLE_TARGET,

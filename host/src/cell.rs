@@ -26,24 +26,26 @@ pub const fn channel(channel: usize) -> usize {
 
 /// A channel's cells, from its first on.
 pub const LATCHED_SAMPLE: usize = 0;
-pub const VOLUME: usize = 1;
-pub const PERIOD: usize = 2;
-pub const TARGET: usize = 3;
-pub const SLIDE_MEMORY: usize = 4;
+/// -8 to 7, as a 32-bit number in two's complement: `State::finetune` reads it.
+pub const FINETUNE: usize = 1;
+pub const VOLUME: usize = 2;
+pub const PERIOD: usize = 3;
+pub const TARGET: usize = 4;
+pub const SLIDE_MEMORY: usize = 5;
 /// A wave: what its place gains with each use, its depth, its place from 0 to 63, and its form.
-pub const VIBRATO_X: usize = 5;
-pub const VIBRATO_Y: usize = 6;
-pub const VIBRATO_PLACE: usize = 7;
-pub const VIBRATO_FORM: usize = 8;
-pub const TREMOLO_X: usize = 9;
-pub const TREMOLO_Y: usize = 10;
-pub const TREMOLO_PLACE: usize = 11;
-pub const TREMOLO_FORM: usize = 12;
-pub const VOICE_SAMPLE: usize = 13;
-pub const VOICE_PERIOD: usize = 14;
-pub const VOICE_VOLUME: usize = 15;
-pub const VOICE_INDEX: usize = 16;
-pub const VOICE_FRACTION: usize = 17;
+pub const VIBRATO_X: usize = 6;
+pub const VIBRATO_Y: usize = 7;
+pub const VIBRATO_PLACE: usize = 8;
+pub const VIBRATO_FORM: usize = 9;
+pub const TREMOLO_X: usize = 10;
+pub const TREMOLO_Y: usize = 11;
+pub const TREMOLO_PLACE: usize = 12;
+pub const TREMOLO_FORM: usize = 13;
+pub const VOICE_SAMPLE: usize = 14;
+pub const VOICE_PERIOD: usize = 15;
+pub const VOICE_VOLUME: usize = 16;
+pub const VOICE_INDEX: usize = 17;
+pub const VOICE_FRACTION: usize = 18;
 /// 0 or 1.
-pub const VOICE_STOPPED: usize = 18;
-pub const CHANNEL_CELLS: usize = 19;
+pub const VOICE_STOPPED: usize = 19;
+pub const CHANNEL_CELLS: usize = 20;

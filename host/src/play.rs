@@ -26,7 +26,7 @@ pub fn tick_rest(tempo: u32, remainder: u32) -> u32 {
 }
 
 /// The cells of a state.
-pub const STATE_CELLS: usize = 165;
+pub const STATE_CELLS: usize = 173;
 
 /// Where a song is and how its voices sound, in plain numbers; `cell` names them.
 ///
@@ -64,6 +64,11 @@ impl State {
 
     pub fn page(&self) -> u32 {
         self.0[cell::PAGE]
+    }
+
+    /// The finetune of a channel, from 0: -8 to 7 where the state is legal.
+    pub fn finetune(&self, channel: usize) -> i32 {
+        self.0[cell::channel(channel) + cell::FINETUNE] as i32
     }
 }
 

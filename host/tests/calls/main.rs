@@ -1,5 +1,6 @@
 //! The safe wrappers, on modules small enough to know every answer.
 mod channels;
+mod finetune;
 
 use lampthistle::{
     cell, change_page, fresh, judge, play, play_floats, play_stream, play_stream_floats,
