@@ -18,10 +18,11 @@ pub const COMMAND: Command = Command {
 lampthistle info [--plain | --json] FILE
 
 Shows a module's title, channel count, song length, pattern count and table; how long it plays until it comes back to a place where it
-has been; its samples with lengths, volumes and loops, in bytes; and what it asks for that does nothing here, as judge --notes does.
+has been; its samples with lengths, in bytes, volumes, finetunes, -8 to 7, and loops; and what it asks for that does nothing here, as
+judge --notes does.
 --plain prints NUMBER PLACE COUNT of the judging; then song length, pattern count and channel count; the played table entries; ticks and
 frames until it comes back, and that position and row, or - - - - if it does not; a line a sample that has bytes: its number, length,
-volume, loop start and loop length, 0 0 without a loop; and a line a note: note EFFECT CELLS PATTERN ROW CHANNEL.
+volume, loop start and loop length, 0 0 without a loop, and finetune; and a line a note: note EFFECT CELLS PATTERN ROW CHANNEL.
 --json prints all of it as one object.
 
 Example:
@@ -66,16 +67,17 @@ fn page(file: &[u8], course: Option<&Course>) -> String {
         format!("patterns     {}", pattern_count(file)),
         format!("table        {}", table(file)),
         format!("plays        {}", lasting(course)),
-        "sample  bytes   volume  loop             name".into(),
+        "sample  bytes   volume  finetune  loop             name".into(),
     ];
     lines.extend(samples(file).map(|header| {
-        let (number, length, volume) = (header.number, header.length, header.volume);
+        let (number, length) = (header.number, header.length);
+        let (volume, finetune) = (header.volume, header.finetune);
         let looped = match header.looped() {
             Some((start, length)) => format!("{start} to {}", start + length),
             None => "none".into(),
         };
         let name = readable(header.name);
-        format!("{number:>6}  {length:>6}  {volume:>6}  {looped:<15}  {name}")
+        format!("{number:>6}  {length:>6}  {volume:>6}  {finetune:>8}  {looped:<15}  {name}")
     }));
     lines.extend(notes(file).iter().map(|note| note.line()));
     let lines = lines.iter().map(|line| line.trim_end().to_string() + "\n");
@@ -104,9 +106,10 @@ fn bare(file: &[u8], course: Option<&Course>) -> String {
         None => "- - - -\n".into(),
     };
     for header in samples(file) {
-        let (number, length, volume) = (header.number, header.length, header.volume);
+        let (number, length) = (header.number, header.length);
+        let (volume, finetune) = (header.volume, header.finetune);
         let (start, repeat) = header.looped().unwrap_or((0, 0));
-        text += &format!("{number} {length} {volume} {start} {repeat}\n");
+        text += &format!("{number} {length} {volume} {start} {repeat} {finetune}\n");
     }
     for note in notes(file) {
         text += &format!("{}\n", note.plain());

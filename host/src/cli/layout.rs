@@ -24,8 +24,8 @@ pub struct Header<'a> {
     pub number: usize,
     pub name: &'a [u8],
     pub length: u32,
-    /// Four bits.
-    pub finetune: u8,
+    /// -8 to 7.
+    pub finetune: i8,
     pub volume: u8,
     pub loop_start: u32,
     pub loop_length: u32,
@@ -47,11 +47,21 @@ pub fn headers(file: &[u8]) -> impl Iterator<Item = Header<'_>> {
         number: k + 1,
         name: &bytes[NAME],
         length: word(bytes, LENGTH),
-        finetune: bytes[FINETUNE] % 16,
+        finetune: signed(bytes[FINETUNE] % 16),
         volume: bytes[VOLUME],
         loop_start: word(bytes, LOOP_START),
         loop_length: word(bytes, LOOP_LENGTH),
     })
+}
+
+/// Four bits as a number with a sign: 8 to 15 are -8 to -1.
+fn signed(bits: u8) -> i8 {
+    let number = bits as i8;
+    if number < 8 {
+        number
+    } else {
+        number - 16
+    }
 }
 
 /// The table's entries that are played: the pattern at each song position.

@@ -23,18 +23,19 @@ lampthistle trace FILE [--once | --ticks N] [--waves] [--plain | --json]
 
 Shows the first N ticks of a module or of a tick stream, 100 without --ticks, a line a tick: its number, the module's position and row,
 the tempo, the remainder that the tick leaves, its frames, and the sample, sounded volume and sounded period of each channel that the file
-has. A * stands before a channel that changes or starts; @ and the byte offset after one that starts. --once shows a module's ticks until
-it comes back to a place where it has been, as info tells. --waves shows each channel's vibrato, v, and tremolo, t, too, as the tick
-leaves them: x and y as an effect has them, the place, 0 to 63, and the form.
+has. A * stands before a channel that changes or starts; behind its period a module's finetune as the tick leaves it, where it is not 0;
+and @ with the byte offset where the channel starts. --once shows a module's ticks until it comes back to a place where it has been, as
+info tells. --waves shows each channel's vibrato, v, and tremolo, t, too, as the tick leaves them: x and y as an effect has them, the
+place, 0 to 63, and the form.
 --plain prints NUMBER PLACE COUNT, the count in bytes of the stream, then a line a tick: tick, position, row, tempo, remainder and
-frames, and for each channel six numbers: 1 if it is in the record, sample, volume, period, start, offset / 256. --waves adds x, y, place
-and form of its vibrato and of its tremolo; the forms are 0 sine, 1 ramp, 2 square. A stream has - - for position and row. --json prints
-an object a tick, with the waves of a module.
+frames, and for each channel seven numbers: 1 if it is in the record, sample, volume, period, start, offset / 256, finetune. --waves adds
+x, y, place and form of its vibrato and of its tremolo; the forms are 0 sine, 1 ramp, 2 square. A stream has - - for position and row, and
+- for each finetune. --json prints an object a tick, with the finetunes and waves of a module.
 
 Example:
   lampthistle trace song.mod --ticks 4
-   tick  pos row tempo rem frames   channel 1           channel 2           channel 3           channel 4
-      0    0   0   125   0    960  * 1 64 428 @0         0  0   0            0  0   0            0  0   0
+   tick  pos row tempo rem frames   channel 1              channel 2              channel 3              channel 4
+      0    0   0   125   0    960  * 1 64 407 +7 @0         0  0   0               0  0   0               0  0   0
 
 Exit status: 0 accepted; 1 refused; 2 wrong use, or a file that cannot be read.
 ",
@@ -172,11 +173,16 @@ fn heading(words: &Words, bytes: u64, channels: usize) -> String {
         return plain_accepted(bytes);
     }
     let mut text = String::from(" tick  pos row tempo rem frames");
-    let width = if words.has("--waves") { 39 } else { 9 };
+    let width = if words.has("--waves") { 42 } else { 12 };
     for channel in 1..=channels {
         text += &format!("   channel {channel:<width$}");
     }
     text.trim_end().to_string() + "\n"
+}
+
+/// A channel's finetune as the tick leaves it; a stream has none.
+fn finetune(tick: &Tick, channel: usize) -> Option<i32> {
+    tick.state.as_ref().map(|state| state.finetune(channel))
 }
 
 fn marked(tick: &Tick, channel: usize) -> String {
@@ -188,19 +194,22 @@ fn marked(tick: &Tick, channel: usize) -> String {
     } = tick.registers[channel];
     let command = tick.record.commands[channel];
     let mark = if command.is_some() { '*' } else { ' ' };
+    let finetune = finetune(tick, channel).filter(|&finetune| finetune != 0);
+    let finetune = finetune.map_or(String::new(), |finetune| format!("{finetune:+}"));
     let start = match command {
         Some(command) if command.start => format!("@{}", command.start_byte()),
         _ => String::new(),
     };
-    format!("  {mark}{sample:>2} {volume:>2} {period:>3} {start:<7}")
+    format!("  {mark}{sample:>2} {volume:>2} {period:>3} {finetune:>2} {start:<7}")
 }
 
 fn bare(tick: &Tick, channel: usize) -> String {
     let command = tick.record.commands[channel];
     let registers = tick.registers[channel];
     let (start, offset) = command.map_or((false, 0), |command| (command.start, command.offset));
+    let finetune = finetune(tick, channel).map_or("-".into(), |finetune| finetune.to_string());
     format!(
-        " {} {} {} {} {} {offset}",
+        " {} {} {} {} {} {offset} {finetune}",
         u8::from(command.is_some()),
         registers.sample,
         registers.volume,
@@ -222,6 +231,7 @@ fn fields(source: &Source, tick: &Tick) -> Fields {
                 "starts_at",
                 start.map(|command| command.start_byte()).into(),
             ),
+            ("finetune", finetune(tick, channel).into()),
         ];
         fields.extend(waves::fields(tick.state.as_ref(), channel));
         fields

@@ -68,14 +68,14 @@ fn trace_shows_every_channel() {
         let module = sounding("trace_wide.mod", (tag, channels));
         let (_, out, _) = told(&["trace", "--plain", "--ticks", "2", &module]);
         let bytes = 10 + 2 + 6 * channels + 2;
-        let first = " 1 1 64 428 1 0".repeat(channels);
-        let second = " 0 1 64 428 0 0".repeat(channels);
+        let first = " 1 1 64 428 1 0 0".repeat(channels);
+        let second = " 0 1 64 428 0 0 0".repeat(channels);
         let lines = format!("0 0 {bytes}\n0 0 0 125 0 960{first}\n1 0 0 125 0 960{second}\n");
         assert_eq!(out, lines);
         let (_, out, _) = told(&["trace", "--ticks", "1", &module]);
         let lines: Vec<&str> = out.lines().collect();
         assert!(lines[0].ends_with(&format!("   channel {channels}")));
-        assert_eq!(lines[1].matches("* 1 64 428 @0").count(), channels);
+        assert_eq!(lines[1].matches("* 1 64 428    @0").count(), channels);
         let (_, out, _) = told(&["trace", "--waves", "--ticks", "1", &module]);
         assert_eq!(out.matches("v 00  0 sine").count(), channels);
         let stream = translated(&module, "trace_wide.stream");

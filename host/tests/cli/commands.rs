@@ -23,8 +23,8 @@ fn judge_answers_a_line_a_file() {
 #[test]
 fn info_shows_what_a_module_holds() {
     let (status, out, _) = told(&["info", "--plain", &stored("edges")]);
-    let lines =
-        "0 0 0\n1 1 4\n0\n192 90352 0 0\n1 12 64 4 6\n2 40 64 0 0\n3 4 64 0 4\n31 512 1 200 56\n";
+    let lines = "0 0 0\n1 1 4\n0\n192 90352 0 0\n\
+        1 12 64 4 6 0\n2 40 64 0 0 0\n3 4 64 0 4 0\n31 512 1 200 56 0\n";
     assert_eq!((status, out.as_str()), (0, lines));
     let (status, out, _) = told(&["info", &stored("flow")]);
     assert_eq!(status, 0);

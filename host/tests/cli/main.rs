@@ -3,6 +3,7 @@ mod channels;
 mod commands;
 mod common;
 mod compares;
+mod finetunes;
 mod floats;
 mod objects;
 mod outputs;

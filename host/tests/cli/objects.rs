@@ -54,10 +54,11 @@ fn trace_prints_an_object_a_tick() {
         r#"{{"file":"{name}","tick":0,"position":0,"row":0,"tempo":255,"remainder":150,"frames":470,"channels":["#
     );
     let waves = r#""vibrato":{"x":0,"y":0,"place":0,"form":"sine"},"tremolo":{"x":0,"y":0,"place":0,"form":"sine"}}"#;
-    let channel = r#"{"changed":true,"sample":1,"volume":64,"period":428,"starts_at":0,"#;
+    let channel =
+        r#"{"changed":true,"sample":1,"volume":64,"period":428,"starts_at":0,"finetune":0,"#;
     let start = start + channel + waves + ",";
     assert!(lines[0].starts_with(&start), "{}", lines[0]);
-    let end = r#"{"changed":false,"sample":0,"volume":0,"period":0,"starts_at":null,"#;
+    let end = r#"{"changed":false,"sample":0,"volume":0,"period":0,"starts_at":null,"finetune":0,"#;
     let end = format!("{end}{waves}]}}");
     assert!(lines[1].ends_with(&end), "{}", lines[1]);
 }

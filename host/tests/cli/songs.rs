@@ -78,7 +78,7 @@ fn a_song_that_does_not_come_back_is_said() {
     );
 }
 
-/// A module of two patterns, of which the first is played twice, with finetuned sample 2.
+/// A module of two patterns, of which the first is played twice, with finetuned sample 2, and E5 after its note.
 fn asking(name: &str) -> String {
     let module = quiet(name, &[]);
     let mut file = std::fs::read(&module).unwrap();
@@ -92,6 +92,7 @@ fn asking(name: &str) -> String {
         (1, 12, 2, [0, 0, 0x0E, 0xD3]),
         (1, 13, 0, [1, 0xAC, 0x20, 0]),
         (1, 14, 0, [0, 0, 0x0E, 0x93]),
+        (1, 15, 0, [0, 0, 0x0E, 0x53]),
         (2, 0, 0, [0, 0, 0x0E, 0x03]),
     ] {
         file[1084 + 1024 * pattern + 16 * row + 4 * channel..][..4].copy_from_slice(&cell);
@@ -106,7 +107,6 @@ fn notes_say_what_does_nothing() {
     let lines = [
         "effect 8 (panning) does nothing: 2 cells, first in pattern 1, row 12, channel 4",
         "effect ED (note delay) does nothing: 1 cell, first in pattern 1, row 12, channel 3",
-        "finetune of a sample does nothing: 1 cell, first in pattern 1, row 13, channel 1",
     ];
     let (status, out, _) = told(&["judge", "--notes", name]);
     let all: String = lines.map(|line| format!("{name}: {line}\n")).concat();

@@ -150,18 +150,18 @@ fn a_note_held_through_65535_ticks_is_compared_in_small_memory() {
 fn trace_marks_what_changes() {
     let (status, out, _) = told(&["trace", "--plain", "--ticks", "2", &stored("effects")]);
     let lines = "0 0 32\n\
-        0 0 0 255 150 470 1 1 64 428 1 0 1 2 32 285 1 0 0 0 0 0 0 0 0 0 0 0 0 0\n\
-        1 0 0 255 45 471 1 1 64 339 0 0 0 2 32 285 0 0 0 0 0 0 0 0 0 0 0 0 0 0\n";
+        0 0 0 255 150 470 1 1 64 428 1 0 0 1 2 32 285 1 0 0 0 0 0 0 0 0 0 0 0 0 0 0 0 0\n\
+        1 0 0 255 45 471 1 1 64 339 0 0 0 0 2 32 285 0 0 0 0 0 0 0 0 0 0 0 0 0 0 0 0 0\n";
     assert_eq!((status, out.as_str()), (0, lines));
     let (_, out, _) = told(&["trace", "--ticks", "4", &stored("effects")]);
     assert!(
         out.contains(
-            "    0    0   0   255 150    470  * 1 64 428 @0       * 2 32 285 @0         0  0   0"
+            "    0    0   0   255 150    470  * 1 64 428    @0       * 2 32 285    @0         0  0   0"
         ),
         "{out}"
     );
     assert!(
-        out.contains("    1    0   0   255  45    471  * 1 64 339            2 32 285  "),
+        out.contains("    1    0   0   255  45    471  * 1 64 339               2 32 285  "),
         "{out}"
     );
     assert!(out.contains("    3    0   1   255 "), "{out}");
@@ -173,13 +173,15 @@ fn trace_shows_waves() {
     let module = stored("waves");
     let plain = told(&["trace", "--plain", "--waves", "--ticks", "3", &module]).1;
     let lines: Vec<&str> = plain.lines().collect();
-    let first = "0 0 0 125 0 960 1 1 64 428 1 0 15 8 0 0 0 0 0 0 1 2 40 285 1 0 0 0 0 0 11 9 0 0 ";
+    let first =
+        "0 0 0 125 0 960 1 1 64 428 1 0 0 15 8 0 0 0 0 0 0 1 2 40 285 1 0 0 0 0 0 0 11 9 0 0 ";
     let third =
-        "2 0 0 125 0 960 1 1 64 443 0 0 15 8 30 0 0 0 0 0 1 2 64 285 0 0 0 0 0 0 11 9 22 0 ";
+        "2 0 0 125 0 960 1 1 64 443 0 0 0 15 8 30 0 0 0 0 0 1 2 64 285 0 0 0 0 0 0 0 11 9 22 0 ";
     assert!(lines[1].starts_with(first), "{}", lines[1]);
     assert!(lines[3].starts_with(third), "{}", lines[3]);
     let (status, out, _) = told(&["trace", "--waves", "--ticks", "16", &module]);
-    let line = "    2    0   0   125   0    960  * 1 64 443         v F8 30 sine   t 00  0 sine  ";
+    let line =
+        "    2    0   0   125   0    960  * 1 64 443            v F8 30 sine   t 00  0 sine  ";
     assert!(status == 0 && out.contains(line), "{out}");
     assert!(out.contains("ramp"), "{out}");
     let stream = translated(&module, "9", "waves.stream");
@@ -201,14 +203,14 @@ fn trace_shows_a_stream() {
         other.starts_with(&format!("0 0 {bytes}\n0 - - 255 150 470 1 1 64 428")),
         "{other}"
     );
-    // The same registers, without a place.
+    // The same registers, without a place and without finetunes, which are all 0 in the module.
     let registers = |text: &str| -> Vec<String> {
         let lines = text.lines().skip(1);
         lines
             .map(|line| line.splitn(4, ' ').nth(3).unwrap().to_string())
             .collect()
     };
-    assert_eq!(registers(&own), registers(&other));
+    assert_eq!(registers(&own), registers(&other.replace(" -", " 0")));
     // By version 1 no tick leaves a remainder.
     let mut bytes = std::fs::read(&stream).unwrap();
     std::fs::write(&stream, older(&bytes, 1)).unwrap();
