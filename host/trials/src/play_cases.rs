@@ -26,6 +26,7 @@ pub fn play_cases() -> Vec<Case> {
         ("waves", waves()),
         ("six", six()),
         ("eight", eight()),
+        ("tuned", tuned()),
     ]
 }
 
@@ -297,6 +298,92 @@ fn eight() -> Vec<u8> {
     draft.put(0, 6, 5, 0, 0, 0xB01);
     draft.put(0, 6, 7, 0, 0, 0xD02);
     draft.put(1, 5, 4, 0, 0, 0xB00);
+    draft.bytes()
+}
+
+/// Samples 1 to 4 of `tuned`, each with the byte of its finetune: 7, -8, -3, and 0 with bits that are none of it.
+const FINETUNES: [u8; 4] = [7, 8, 13, 0xF0];
+
+/// Notes and arpeggios in their rows; a note between two entries; E5 with a note and without; samples that change the finetune of a note that
+/// sounds on; and a vibrato of depth 0 on a period outside its row.
+const TUNED_NOTES: &Column = &[
+    (1, 428, 0x047),
+    (2, 856, 0x0C1),
+    (2, 113, 0x012),
+    (3, 254, 0x0FF),
+    (0, 429, 0),
+    (4, 429, 0x037),
+    (0, 0, 0xE57),
+    (0, 0, 0x0C5),
+    (0, 404, 0xE5F),
+    (1, 214, 0xE50),
+    (1, 0, 0x024),
+    (2, 0, 0x0FF),
+    (4, 113, 0x011),
+    (2, 0, 0x011),
+    (0, 0, 0x4F0),
+    (0, 427, 0x053),
+];
+
+/// Slides at both ends of their rows and from outside, by 0, too; targets, which are tuned once and may leave the row.
+const TUNED_SLIDES: &Column = &[
+    (2, 856, 0x2FF),
+    (1, 0, 0x200),
+    (1, 113, 0x1FF),
+    (2, 0, 0xE10),
+    (1, 856, 0xE2F),
+    (3, 135, 0x130),
+    (0, 404, 0x320),
+    (1, 0, 0x3FF),
+    (2, 856, 0x3FF),
+    (1, 0, 0x300),
+    (0, 0, 0x300),
+    (0, 0, 0x011),
+    (0, 0, 0x100),
+    (2, 113, 0x500),
+    (0, 0, 0x3FF),
+    (4, 0, 0xE20),
+];
+
+/// Vibrato at both ends of its row, and from outside.
+const TUNED_WAVES: &Column = &[
+    (0, 0, 0),
+    (1, 113, 0x4FF),
+    (0, 0, 0x400),
+    (2, 856, 0xE42),
+    (0, 0, 0x4FF),
+    (1, 0, 0x400),
+    (0, 0, 0x612),
+    (0, 0, 0xE5D),
+    (0, 0, 0x401),
+    (4, 856, 0x4F0),
+    (3, 120, 0),
+    (4, 0, 0x400),
+    (2, 0, 0x400),
+    (2, 856, 0xE40),
+    (4, 0, 0x430),
+    (0, 0, 0x430),
+];
+
+/// Periods for E51 to E5F, one a row: those at which E58 and E5D have the two printed entries that a longer list has otherwise, and both ends.
+const E5_PERIODS: [u32; 15] = [
+    856, 808, 762, 113, 640, 604, 120, 480, 508, 453, 404, 339, 320, 254, 114,
+];
+
+/// Finetunes, three ticks a row: of headers, each one by E5, and what slides, vibrato and arpeggio do in their rows.
+fn tuned() -> Vec<u8> {
+    let mut draft = Draft::empty();
+    for (number, finetune) in (1..).zip(FINETUNES) {
+        draft.add_looped(number, 64, 10, 60, &noise(10 + number as u64, 140));
+        draft.headers[number - 1].finetune = finetune;
+    }
+    column(&mut draft, 0, TUNED_NOTES);
+    column(&mut draft, 1, TUNED_SLIDES);
+    column(&mut draft, 2, TUNED_WAVES);
+    for (y, period) in (1..).zip(E5_PERIODS) {
+        draft.put(0, y as usize, 3, 4, period, 0xE50 + y);
+    }
+    fast(&mut draft);
     draft.bytes()
 }
 
