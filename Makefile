@@ -1,5 +1,5 @@
 # make lib                  the C library and its header, in out/
-# make demo                 writes three modules, plays them, translates one and plays its stream, and compares; all in out/
+# make demo                 writes four modules, plays them, translates one and plays its stream, and compares; all in out/
 # make judge FILE=song.mod  judges a file
 # make test                 everything: the proofs, the programs, the host's tests (.ci/run)
 # make host-test            the host's tests alone: c-test, robust, install-test and cargo's
@@ -36,7 +36,7 @@ judge: lib
 	@$(CARGO) run --release --locked --quiet -p lampthistle -- judge -- "$${FILE:?usage: make judge FILE=song.mod}"
 
 demo: all
-	$(BUILT)/demo out/demo.mod out/waves.mod out/eight.mod
+	$(BUILT)/demo out/demo.mod out/waves.mod out/eight.mod out/tuned.mod
 	$(PLAY) info out/demo.mod
 	$(PLAY) play out/demo.mod --once --out out/demo.wav
 	$(PLAY) translate out/demo.mod --once --out out/demo.stream
@@ -47,6 +47,8 @@ demo: all
 	$(PLAY) compare out/waves.mod --once
 	$(PLAY) play out/eight.mod --once --out out/eight.wav
 	$(PLAY) compare out/eight.mod --once
+	$(PLAY) play out/tuned.mod --once --out out/tuned.wav
+	$(PLAY) compare out/tuned.mod --once
 
 bench: all
 	$(BUILT)/bench

@@ -2,6 +2,7 @@
 //! delay.
 pub mod eight;
 mod sounds;
+pub mod tuned;
 pub mod waves;
 
 use second::generate::draft::Draft;

@@ -1,4 +1,4 @@
-//! The demo's samples, synthesised: a bass, a lead, a soft pad, and three drums. Bytes are signed numbers around 0.
+//! The demo's samples, synthesised: a bass, a lead, a soft pad, pianos, and three drums. Bytes are signed numbers around 0.
 use second::generate::Random;
 use std::f64::consts::TAU;
 
@@ -69,6 +69,26 @@ pub fn pad() -> Sound {
     Sound {
         bytes,
         looped: Some((0, LENGTH)),
+    }
+}
+
+/// A struck string of so many bytes a cycle: the higher a harmonic, the weaker it is and the sooner it fades.
+pub fn piano(cycle: f64) -> Sound {
+    const LENGTH: usize = 8_192;
+    const HARMONICS: u32 = 7;
+    let bytes = (0..LENGTH)
+        .map(|i| {
+            let (turns, time) = (i as f64 / cycle, i as f64 / LENGTH as f64);
+            let waves = (1..=HARMONICS).map(f64::from).map(|n| {
+                let level = (-(2.5 + 1.5 * n) * time).exp() / n.powf(1.2);
+                level * (TAU * n * turns).sin()
+            });
+            byte(0.5 * (1.0 - time) * waves.sum::<f64>())
+        })
+        .collect();
+    Sound {
+        bytes,
+        looped: None,
     }
 }
 
