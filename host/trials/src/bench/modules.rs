@@ -100,8 +100,37 @@ pub fn sliding() -> Vec<u8> {
     repeating(4, [0x000, 0x102, 0x202, 0x000])
 }
 
+/// Modules with one effect in every row, or with none.
+pub fn by_effect() -> [(&'static str, Vec<u8>); 5] {
+    [
+        ("no effects", 0x000),
+        ("arpeggio", 0x047),
+        ("slides of 1", 0x102),
+        ("slides of 2", 0x202),
+        ("vibrato", 0x484),
+    ]
+    .map(|(name, effect)| (name, repeating(4, [effect; 4])))
+}
+
+/// Finetunes as headers have them: 3, -5, 7 and -8.
+const FINETUNES: [u8; 4] = [3, 11, 7, 8];
+
+/// Arpeggio, slides and vibrato in turn, with a finetune for each sample.
+pub fn tuned() -> Vec<u8> {
+    let mut draft = repeated(4, [0x047, 0x102, 0x202, 0x484]);
+    for (header, finetune) in draft.headers.iter_mut().zip(FINETUNES) {
+        header.finetune = finetune;
+    }
+    accepted(draft.bytes())
+}
+
 /// Looped samples and one pattern, whose rows have these effects in turn, the first of them with a note on each channel.
 fn repeating(channels: usize, effects: [u32; 4]) -> Vec<u8> {
+    accepted(repeated(channels, effects).bytes())
+}
+
+/// The same, before it is a file.
+fn repeated(channels: usize, effects: [u32; 4]) -> Draft {
     let mut draft = looped_samples(channels);
     for row in 0..64 {
         for channel in 0..channels {
@@ -112,7 +141,7 @@ fn repeating(channels: usize, effects: [u32; 4]) -> Vec<u8> {
             draft.put(0, row, channel, sample, period, effects[row % 4]);
         }
     }
-    accepted(draft.bytes())
+    draft
 }
 
 /// Bytes of a sample.

@@ -1,5 +1,5 @@
 //! Translation, ns a tick; the board against the player on the same module, ns a frame; and the ticks before a part, ns a tick.
-use super::modules::{busy, busy_by, sliding};
+use super::modules::{busy, busy_by, by_effect, sliding, tuned};
 use crate::say::say;
 use crate::timing::print_medians;
 use lampthistle::MOST_TICKS;
@@ -21,6 +21,12 @@ pub fn print() {
     }
     say("translation of a module without arpeggios");
     translation(&sliding(), MOST_TICKS / 10);
+    for (name, file) in by_effect() {
+        say(&format!("translation without finetunes: {name}"));
+        translation(&file, MOST_TICKS / 10);
+    }
+    say("translation with finetunes: arpeggio, slides and vibrato in turn");
+    translation(&tuned(), MOST_TICKS / 10);
     say("play_stream against play, 10 to 1,000 ticks");
     for ticks in [10, 100, 1_000] {
         board_and_player(&file, ticks);
