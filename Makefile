@@ -77,6 +77,7 @@ c-test: demo
 	$(CC) -std=c99 $(C_WARNINGS) -pthread -Iout host/c/stack.c out/liblampthistle.a -o out/stack
 	out/stack out/demo.mod
 	out/stack out/eight.mod
+	out/stack out/tuned.mod
 	for part in panel board; do \
 	    $(CC) -std=c99 $(C_WARNINGS) -Iout examples/$$part.c out/liblampthistle.a -o out/$$part || exit 1; \
 	    $(CXX) -std=c++11 $(C_WARNINGS) -x c++ -Iout examples/$$part.c -x none out/liblampthistle.a -o out/$${part}_cc || exit 1; \
