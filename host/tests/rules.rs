@@ -1,4 +1,6 @@
-//! docs/RULES.md: every rule names the definitions that say it exactly, as `crate/specs/File.antt: name, name`, and each of them is there.
+//! docs/RULES.md: every rule names the definitions that say it exactly, as `crate/specs/File.antt: name, name`, and each of them is there; and
+//! its periods are those of the library's notes.
+use lampthistle::{cell, fresh, play};
 use std::path::Path;
 
 fn root() -> &'static Path {
@@ -70,5 +72,46 @@ fn rules_of(block: &str) -> Vec<&str> {
         block.lines().skip(2).collect()
     } else {
         vec![block]
+    }
+}
+
+/// The finetunes with their rows of periods.
+fn rows_of_periods(rules: &str) -> Vec<(i32, Vec<u32>)> {
+    let lines = rules
+        .lines()
+        .skip_while(|line| *line != "| Finetune | Periods | Definition |")
+        .skip(2)
+        .take_while(|line| line.starts_with('|'));
+    lines
+        .map(|line| {
+            let parts: Vec<&str> = line.split('|').map(str::trim).collect();
+            let periods = parts[2].split(' ').map(|period| period.parse().unwrap());
+            (parts[1].parse().unwrap(), periods.collect())
+        })
+        .collect()
+}
+
+/// The period that sounds in the first tick of a note whose sample has this finetune.
+fn sounded(finetune: i32, period: u32) -> u32 {
+    let [.., high, low] = period.to_be_bytes();
+    let mut file = vec![0; 1_084 + 1_024];
+    (file[20 + 24], file[950]) = ((finetune & 15) as u8, 1);
+    file[1080..1084].copy_from_slice(b"M.K.");
+    file[1084..1087].copy_from_slice(&[high, low, 0x10]);
+    let mut state = fresh();
+    assert!(play(&file, &mut state, 1, &mut [0; 1_920]).is_accepted());
+    state.0[cell::channel(0) + cell::VOICE_PERIOD]
+}
+
+#[test]
+fn notes_have_the_periods_of_the_table() {
+    let rows = rows_of_periods(&rules());
+    let finetunes: Vec<i32> = rows.iter().map(|(finetune, _)| *finetune).collect();
+    assert_eq!(finetunes, (0..8).chain(-8..0).collect::<Vec<_>>());
+    let cells = rows[0].1.clone();
+    for (finetune, periods) in rows {
+        assert_eq!(periods.len(), 36, "{finetune}");
+        let notes = cells.iter().map(|&period| sounded(finetune, period));
+        assert_eq!(notes.collect::<Vec<_>>(), periods, "{finetune}");
     }
 }
