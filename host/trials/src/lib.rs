@@ -6,6 +6,7 @@ pub mod bursts;
 pub mod cases;
 pub mod demo;
 mod files;
+pub mod finetunes;
 pub mod floats;
 pub mod judging;
 pub mod lengths;

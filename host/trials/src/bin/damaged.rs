@@ -1,6 +1,7 @@
 //! damaged FOLDER: writes inputs for the memory checker: k.mod, k.state (a state's cells, four bytes each, low byte first) and k.stream; most of
 //! them damaged.
 use second::generate::damage::any_file;
+use second::generate::finetunes::finetuned;
 use second::generate::modules::{module, Size};
 use second::generate::states::{illegal_state, legal_state};
 use second::generate::streams::{bad_stream, damaged_stream, legal_stream};
@@ -28,7 +29,10 @@ fn main() -> ExitCode {
 fn write(folder: &Path) -> std::io::Result<()> {
     std::fs::create_dir_all(folder)?;
     for seed in 0..INPUTS {
-        let good = module(seed, Size::Small);
+        let good = match seed % 7 {
+            0 => finetuned(seed),
+            _ => module(seed, Size::Small),
+        };
         let file = if seed % 3 == 0 {
             any_file(seed)
         } else {
