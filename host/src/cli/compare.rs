@@ -1,5 +1,6 @@
 //! compare FILE: the player, number by number, with the sound board, a given stream or a recording.
 use super::board::{self, Board};
+use super::course::{course, MOST_TICKS};
 use super::input::{self, Source};
 use super::json::{self, Fields, Value};
 use super::length::ticks_asked;
@@ -28,9 +29,10 @@ lampthistle compare FILE SOUND.raw|SOUND.wav [--once | --ticks N] [--float [--mo
 Plays the module and says that something else sounds the same, number by number, or where they first differ: the tick, and the frame in
 it and from the beginning. The other is
   without a second file, the board with the module's own stream: of N ticks, 1,000 without --ticks and 65,535 at most;
-  with a STREAM, the board with that stream and the module's samples: all its ticks, or the first N;
-  with a SOUND, a recording of 48,000 frames a second: all of it, or the first N ticks.
---once takes the ticks until the song comes back to a place where it has been, as info tells.
+  with a STREAM, the board with that stream and the module's samples;
+  with a SOUND, a recording of 48,000 frames a second.
+All of the other is compared, and how long the song is once through is said beside it. With --ticks N the other must have N ticks: one
+that ends before or goes on is different. --once asks for the ticks until the song comes back to a place where it has been, as info tells.
 --float compares the frames as 32-bit floats, bit for bit, and with --mono one number a frame, as play writes them.
 --plain prints NUMBER PLACE COUNT, the count in ticks; a difference is told on standard error. --json prints one object.
 
@@ -47,41 +49,105 @@ const TICKS: u32 = 1_000;
 
 /// What the player is compared with.
 enum Other<'a, N> {
-    Board(Board<'a, N>),
+    /// A stream of so many ticks.
+    Board(Board<'a, N>, u64),
     Recording(Recording<N>),
 }
 
 impl<N: Number> Other<'_, N> {
+    /// How many ticks it has, where that is known.
+    fn ticks(&self) -> Option<u64> {
+        match self {
+            Other::Board(_, ticks) => Some(*ticks),
+            Other::Recording(_) => None,
+        }
+    }
+
     /// Whether it may end within a tick.
     fn may_be_cut(&self) -> bool {
         matches!(self, Other::Recording(_))
     }
 
     /// The numbers beside a tick of the player that has so many; none after the last.
-    fn next(&mut self, numbers: usize) -> Result<Option<&[N]>, Stop> {
+    fn next(&mut self, numbers: usize) -> Result<&[N], Stop> {
         match self {
-            Other::Board(board) => board.next(),
-            Other::Recording(recording) => {
-                let read = recording.next(numbers)?;
-                Ok((!read.is_empty()).then_some(read))
-            }
+            Other::Board(board, _) => Ok(board.next()?.unwrap_or(&[])),
+            Other::Recording(recording) => recording.next(numbers),
         }
     }
 }
 
 /// Whole ticks and frames that are equal, and the first difference.
+#[derive(Default)]
 struct Outcome {
     ticks: u64,
     frames: u64,
     difference: Option<Difference>,
 }
 
+/// How the other differs.
+enum How {
+    Numbers,
+    /// It ends before the ticks that were asked for.
+    Ends,
+    /// It goes on after them.
+    GoesOn,
+}
+
 /// Numbers that are not the same, of a frame of the tick; none where one side has no such frame.
 struct Difference {
+    how: How,
     frame: usize,
     side: &'static str,
     player: Option<Value>,
     other: Option<Value>,
+}
+
+/// How long the other is to be.
+enum Length {
+    /// So many ticks, as was asked for.
+    Asked(u32),
+    /// As long as it is, beside a song of so many ticks once through; none where it does not come back.
+    Whole(Option<u32>),
+}
+
+impl Length {
+    /// The length that the words ask for, of an accepted module.
+    fn of(words: &Words, file: &Source) -> Result<Length, Stop> {
+        match ticks_asked(words, file)? {
+            Some(0) => Err(Stop::Usage("--ticks 0: nothing to compare".into())),
+            Some(ticks) => Ok(Length::Asked(ticks)),
+            None => Ok(Length::Whole(course(file)?.map(|course| course.ticks))),
+        }
+    }
+
+    fn asked(&self) -> Option<u32> {
+        match self {
+            Length::Asked(ticks) => Some(*ticks),
+            Length::Whole(_) => None,
+        }
+    }
+
+    fn song(&self) -> Option<u32> {
+        match self {
+            Length::Asked(_) => None,
+            Length::Whole(song) => *song,
+        }
+    }
+
+    /// How much of the song the whole of the other is, for the end of a line.
+    fn beside(&self) -> String {
+        match self {
+            Length::Asked(_) => String::new(),
+            Length::Whole(Some(song)) => {
+                let song = counted((*song).into(), "tick");
+                format!("; the song once through is {song}")
+            }
+            Length::Whole(None) => {
+                format!("; the song does not come back to a place within {MOST_TICKS} ticks")
+            }
+        }
+    }
 }
 
 fn run(words: &Words) -> Result<bool, Stop> {
@@ -104,90 +170,89 @@ fn run_with<N: Number>(words: &Words, kind: Kind) -> Result<bool, Stop> {
     match second.map(|name| (name, Format::of(name))) {
         None => {
             let [file] = input::read_all([first])?;
-            let ticks = ticks_asked(words, &file)?;
-            let stream = translated(&file, ticks.unwrap_or(TICKS))?;
-            with_board::<N>(words, &file, kind, ("board", &stream), ticks)
+            let _ = file.judge()?;
+            let length = Length::of(words, &file)?;
+            let stream = translated(&file, length.asked().unwrap_or(TICKS))?;
+            with_board::<N>(words, &file, kind, ("board", &stream), &length)
         }
         Some((name, None)) => {
             let [file, stream] = input::read_all([first, name])?;
             let _ = board::judge(&stream, &file)?;
-            let ticks = ticks_asked(words, &file)?;
+            let length = Length::of(words, &file)?;
             let stream = (stream.name.as_str(), stream.bytes.as_slice());
-            with_board::<N>(words, &file, kind, stream, ticks)
+            with_board::<N>(words, &file, kind, stream, &length)
         }
         Some((name, Some(format))) => {
             let [file] = input::read_all([first])?;
             let _ = file.judge()?;
-            with_recording::<N>(words, &file, kind, Recording::open(name, format, kind)?)
+            let recording = Recording::<N>::open(name, format, kind)?;
+            let (name, length) = (recording.name.clone(), Length::of(words, &file)?);
+            let outcome = compare(&file, kind, Other::Recording(recording), length.asked())?;
+            tell(words, &file, &name, &length, &outcome)
         }
     }
 }
 
-/// The board plays an accepted stream of this name, all its ticks or the first of them.
+/// The board plays an accepted stream of this name.
 fn with_board<N: Number>(
     words: &Words,
     file: &Source,
     kind: Kind,
     (name, stream): (&str, &[u8]),
-    ticks: Option<u32>,
+    length: &Length,
 ) -> Result<bool, Stop> {
-    let all = records::ticks(stream);
-    let ticks = ticks.map_or(all, |ticks| all.min(ticks.into()));
-    let board = Other::<N>::Board(Board::new(stream, &file.bytes, kind.sides()));
-    let outcome = compare(file, kind, board, Some(ticks))?;
-    tell(words, file, name, &outcome)
+    let board = Board::<N>::new(stream, &file.bytes, kind.sides());
+    let other = Other::Board(board, records::ticks(stream));
+    let outcome = compare(file, kind, other, length.asked())?;
+    tell(words, file, name, length, &outcome)
 }
 
-fn with_recording<N: Number>(
-    words: &Words,
-    file: &Source,
-    kind: Kind,
-    recording: Recording<N>,
-) -> Result<bool, Stop> {
-    let name = recording.name.clone();
-    let ticks = ticks_asked(words, file)?.map(u64::from);
-    let outcome = compare(file, kind, Other::Recording(recording), ticks)?;
-    if outcome.frames == 0 && outcome.difference.is_none() {
-        return Err(Stop::Cannot(format!("{name}: no frame to compare")));
-    }
-    tell(words, file, &name, &outcome)
-}
-
-/// Plays the module beside the other, for so many ticks or until the other ends.
+/// Plays the module beside the other, for the ticks that are asked for or until the other ends.
 fn compare<N: Number>(
     file: &Source,
     kind: Kind,
     mut other: Other<N>,
-    all: Option<u64>,
+    asked: Option<u32>,
 ) -> Result<Outcome, Stop> {
     let mut song = Song::<N>::for_sides(&file.bytes, kind.sides());
     let mut progress = Progress::new();
-    let (mut ticks, mut frames) = (0, 0);
-    let (mut difference, may_be_cut) = (None, other.may_be_cut());
-    while difference.is_none() && all.is_none_or(|all| ticks < all) {
+    let mut outcome = Outcome::default();
+    let (asked, may_be_cut) = (asked.map(u64::from), other.may_be_cut());
+    let all = asked.or(other.ticks());
+    while asked.is_none_or(|asked| outcome.ticks < asked) {
         let played = song.next(TICK_FRAMES);
-        let mut player = played
-            .map_err(|answer| file.refused(answer))?
-            .unwrap_or(&[]);
-        let Some(heard) = other.next(player.len())? else {
-            break;
-        };
-        let cut = may_be_cut && heard.len() < player.len();
-        if cut {
+        let player = played.map_err(|answer| file.refused(answer))?;
+        let mut player = player.unwrap_or(&[]);
+        let heard = other.next(player.len())?;
+        let ended = heard.is_empty() || may_be_cut && heard.len() < player.len();
+        if ended && asked.is_none() {
             player = &player[..heard.len()];
         }
-        difference = first_difference(kind, player, heard);
-        if difference.is_none() {
-            ticks += u64::from(!cut);
-            frames += (heard.len() / kind.sides()) as u64;
-            progress.show("ticks", ticks, all.unwrap_or(ticks));
+        outcome.add(kind, player, heard, ended);
+        if ended || outcome.difference.is_some() {
+            return Ok(outcome);
+        }
+        progress.show("ticks", outcome.ticks, all.unwrap_or(outcome.ticks));
+    }
+    let more = first_difference(kind, &[], other.next(kind.sides())?);
+    let how = How::GoesOn;
+    outcome.difference = more.map(|found| Difference { how, ..found });
+    Ok(outcome)
+}
+
+impl Outcome {
+    /// The next tick of the player and the other, whose last numbers these may be.
+    fn add<N: Number>(&mut self, kind: Kind, player: &[N], other: &[N], ended: bool) {
+        self.difference = first_difference(kind, player, other);
+        match &mut self.difference {
+            None => {
+                self.ticks += u64::from(!ended);
+                self.frames += (other.len() / kind.sides()) as u64;
+            }
+            Some(found) if ended && found.other.is_none() => found.how = How::Ends,
+            Some(_) => (),
         }
     }
-    Ok(Outcome {
-        ticks,
-        frames,
-        difference,
-    })
 }
 
 fn first_difference<N: Number>(kind: Kind, player: &[N], other: &[N]) -> Option<Difference> {
@@ -198,6 +263,7 @@ fn first_difference<N: Number>(kind: Kind, player: &[N], other: &[N]) -> Option<
     };
     let k = (0..longer).find(|&k| !same(k))?;
     Some(Difference {
+        how: How::Numbers,
         frame: k / sides,
         side: kind.side(k % sides),
         player: player.get(k).map(|number| number.value()),
@@ -206,47 +272,63 @@ fn first_difference<N: Number>(kind: Kind, player: &[N], other: &[N]) -> Option<
 }
 
 /// Tells how the player and the other of this name compare, and gives whether they are equal.
-fn tell(words: &Words, file: &Source, name: &str, outcome: &Outcome) -> Result<bool, Stop> {
-    let Outcome {
-        ticks,
-        frames,
-        difference,
-    } = outcome;
+fn tell(
+    words: &Words,
+    file: &Source,
+    name: &str,
+    length: &Length,
+    outcome: &Outcome,
+) -> Result<bool, Stop> {
+    let (own, ticks, frames) = (&file.name, outcome.ticks, outcome.frames);
+    let equal = outcome.difference.is_none();
+    if equal && frames == 0 {
+        return Err(Stop::Cannot(format!("{name}: no frame to compare")));
+    }
     if words.json {
-        say(&json::object(fields(file, name, outcome)))?;
-    } else if let Some(found) = difference {
-        let (own, frame, side) = (&file.name, found.frame, found.side);
-        let [player, other] = [&found.player, &found.other].map(|number| match number {
-            Some(number) => number.bare(),
-            None => "none".into(),
-        });
-        let from_begin = frames + frame as u64;
-        Stop::Cannot(format!(
-            "{own}: DIFFERENT: tick {ticks}, frame {frame} ({from_begin} from the beginning), {side}: player {player}, {name} {other}"
-        ))
-        .tell();
+        say(&json::object(fields(file, name, length, outcome)))?;
+    } else if let Some(found) = &outcome.difference {
+        let difference = difference_line(name, length, outcome, found);
+        Stop::Cannot(format!("{own}: DIFFERENT: {difference}")).tell();
     } else if words.plain {
-        say(&plain_accepted(*ticks))?;
+        say(&plain_accepted(ticks))?;
     } else {
-        let (own, ticks, frames) = (
-            &file.name,
-            counted(*ticks, "tick"),
-            counted(*frames, "frame"),
-        );
+        let (ticks, frames) = (counted(ticks, "tick"), counted(frames, "frame"));
+        let beside = length.beside();
         say(&format!(
-            "{own}: {ticks}, {frames}: player and {name} are equal\n"
+            "{own}: {ticks}, {frames}: player and {name} are equal{beside}\n"
         ))?;
     }
-    Ok(difference.is_none())
+    Ok(equal)
 }
 
-fn fields(file: &Source, name: &str, outcome: &Outcome) -> Fields {
+fn difference_line(name: &str, length: &Length, outcome: &Outcome, found: &Difference) -> String {
+    let (tick, frame, side) = (outcome.ticks, found.frame, found.side);
+    let from_begin = outcome.frames + frame as u64;
+    let [ticks, frames] = [(tick, "tick"), (from_begin, "frame")].map(|(n, unit)| counted(n, unit));
+    match (&found.how, length.asked()) {
+        (How::Ends, Some(asked)) => {
+            format!("{name} ends after {ticks} of {asked}, {frames} from the beginning")
+        }
+        (How::GoesOn, _) => format!("{name} goes on after {ticks}, {frames} from the beginning"),
+        _ => {
+            let [player, other] = [&found.player, &found.other].map(|number| match number {
+                Some(number) => number.bare(),
+                None => "none".into(),
+            });
+            format!("tick {tick}, frame {frame} ({from_begin} from the beginning), {side}: player {player}, {name} {other}")
+        }
+    }
+}
+
+fn fields(file: &Source, name: &str, length: &Length, outcome: &Outcome) -> Fields {
     let mut fields = report::accepted(&file.name);
     fields.extend([
         ("with", name.into()),
         ("equal", outcome.difference.is_none().into()),
         ("ticks", outcome.ticks.into()),
         ("frames", outcome.frames.into()),
+        ("asked_ticks", length.asked().into()),
+        ("song_ticks", length.song().into()),
     ]);
     if let Some(found) = &outcome.difference {
         fields.extend([

@@ -1,16 +1,37 @@
 //! The player against a given stream and against recordings.
 use crate::common::{frames, older, own, stored, told};
 
+/// How many ticks the stored module has once through.
+const SONG: u32 = 192;
+
 fn path(name: &str) -> String {
     own(name).to_str().unwrap().into()
 }
 
 /// The first 20 ticks of a stored module, 9,411 frames, as a file of this name.
 fn played(name: &str) -> String {
-    let out = path(name);
-    let words = ["play", &stored("effects"), "--ticks", "20", "--out", &out];
-    assert_eq!(told(&words).0, 0);
+    written("play", 20, name)
+}
+
+/// The first ticks of a stored module, as a command writes them to a file of this name.
+fn written(command: &str, ticks: u32, name: &str) -> String {
+    let (out, ticks) = (path(name), ticks.to_string());
+    let words = [command, &stored("effects"), "--ticks", &ticks, "--out"];
+    assert_eq!(told(&[&words[..], &[&out]].concat()).0, 0);
     out
+}
+
+/// The line of a whole stream or recording that is equal, of the stored module.
+fn equal(ticks: u32, frames: u32, name: &str) -> String {
+    let module = stored("effects");
+    format!("{module}: {ticks} ticks, {frames} frames: player and {name} are equal; the song once through is {SONG} ticks\n")
+}
+
+/// Runs words that must end with 1, and gives the message.
+fn differs(words: &[&str]) -> String {
+    let (status, out, err) = told(words);
+    assert_eq!((status, out.as_str()), (1, ""), "{words:?}: {err}");
+    err
 }
 
 /// Changes bytes of a file.
@@ -23,12 +44,9 @@ fn change(name: &str, with: impl FnOnce(&mut Vec<u8>)) {
 #[test]
 fn a_stream_is_compared() {
     let module = &stored("effects");
-    let stream = &path("given.stream");
-    let words = ["translate", module, "--ticks", "20", "--out", stream];
-    assert_eq!(told(&words).0, 0);
+    let stream = &written("translate", 20, "given.stream");
     let (status, out, _) = told(&["compare", module, stream]);
-    let line = format!("{module}: 20 ticks, 9411 frames: player and {stream} are equal\n");
-    assert_eq!((status, out), (0, line));
+    assert_eq!((status, out), (0, equal(20, 9_411, stream)));
     // The first command's volume.
     change(stream, |bytes| bytes[13] -= 1);
     let (status, out, err) = told(&["compare", module, stream]);
@@ -42,7 +60,6 @@ fn a_stream_is_compared() {
     let (_, _, err) = told(&["compare", module, stream]);
     let line = "tick 1, frame 471 (941 from the beginning), left: player none, ";
     assert!(err.contains(line), "{err}");
-    assert_eq!(told(&["compare", module, stream, "--ticks", "1"]).0, 0);
     change(stream, |bytes| bytes[4] = 4);
     let (status, out, _) = told(&["compare", module, stream, "--plain"]);
     assert_eq!((status, out.as_str()), (1, "22 4 0\n"));
@@ -66,15 +83,13 @@ fn a_recording_is_compared() {
         let sound = &played(name);
         let start = if name.ends_with("wav") { 44 } else { 0 };
         let (status, out, _) = told(&["compare", module, sound]);
-        let line = format!("{module}: 20 ticks, 9411 frames: player and {sound} are equal\n");
-        assert_eq!((status, out), (0, line));
+        assert_eq!((status, out), (0, equal(20, 9_411, sound)));
         // The right number of frame 3 of tick 2.
         change(sound, |bytes| bytes[start + 4 * (frames(2) + 3) + 2] ^= 1);
         let (status, _, err) = told(&["compare", module, sound]);
         assert_eq!(status, 1);
         let line = "DIFFERENT: tick 2, frame 3 (944 from the beginning), right: player ";
         assert!(err.contains(line), "{err}");
-        assert_eq!(told(&["compare", module, sound, "--ticks", "2"]).0, 0);
     }
 }
 
@@ -84,8 +99,53 @@ fn a_recording_may_end_within_a_tick() {
     let sound = &played("short.raw");
     change(sound, |bytes| bytes.truncate(4 * 1000));
     let (status, out, _) = told(&["compare", module, sound]);
-    let line = format!("{module}: 2 ticks, 1000 frames: player and {sound} are equal\n");
-    assert_eq!((status, out), (0, line));
+    assert_eq!((status, out), (0, equal(2, 1_000, sound)));
+    let err = differs(&["compare", module, sound, "--ticks", "3"]);
+    let line = "short.raw ends after 2 ticks of 3, 1000 frames from the beginning\n";
+    assert!(err.ends_with(line), "{err}");
+}
+
+#[test]
+fn another_length_than_asked_for_is_a_difference() {
+    let module = &stored("effects");
+    for (command, name) in [
+        ("translate", "length.stream"),
+        ("play", "length.raw"),
+        ("play", "length.wav"),
+    ] {
+        let other = &written(command, 1, name);
+        for (asked, ticks) in [(&["--once"][..], SONG), (&["--ticks", "10000"], 10_000)] {
+            let err = differs(&[&["compare", module, other], asked].concat());
+            let line = format!("{module}: DIFFERENT: {other} ends after 1 tick of {ticks}, 470 frames from the beginning\n");
+            assert!(err.ends_with(&line), "{err}");
+        }
+        written(command, SONG, name);
+        assert_eq!(told(&["compare", module, other, "--once"]).0, 0);
+        let err = differs(&["compare", module, other, "--ticks", "2"]);
+        let line =
+            format!("DIFFERENT: {other} goes on after 2 ticks, 941 frames from the beginning\n");
+        assert!(err.ends_with(&line), "{err}");
+    }
+}
+
+#[test]
+fn nothing_is_equal_to_nothing() {
+    let module = &stored("effects");
+    let stream = &written("translate", 0, "none.stream");
+    let err = differs(&["compare", module, stream, "--once"]);
+    let line = format!("none.stream ends after 0 ticks of {SONG}, 0 frames from the beginning\n");
+    assert!(err.ends_with(&line), "{err}");
+    let sound = &written("play", 0, "nothing.raw");
+    for (words, reason) in [
+        (&[stream.as_str()][..], "none.stream: no frame to compare"),
+        (&[sound], "nothing.raw: no frame to compare"),
+        (&[stream, "--ticks", "0"], "--ticks 0: nothing to compare"),
+        (&["--ticks", "0"], "--ticks 0: nothing to compare"),
+    ] {
+        let (status, out, err) = told(&[&["compare", module], words].concat());
+        assert_eq!((status, out.as_str()), (2, ""), "{reason}");
+        assert!(err.contains(reason), "{err}");
+    }
 }
 
 #[test]

@@ -119,11 +119,11 @@ fn floats_are_compared() {
     assert_eq!(told(&words).0, 0);
     for (options, sides) in KINDS {
         let equal = |words: &[&str], other: &str| {
-            let (status, out, err) = told(&with(words, options));
+            let (status, out, err) = told(&with(&with(words, &["--ticks", "20"]), options));
             let line = format!("{module}: 20 ticks, 9411 frames: player and {other} are equal\n");
             assert_eq!((status, out, err), (0, line, String::new()));
         };
-        equal(&["compare", module, "--ticks", "20"], "board");
+        equal(&["compare", module], "board");
         equal(&["compare", module, stream], stream);
         for name in ["compared.raw", "compared.wav"] {
             let sound = &path(name);

@@ -110,13 +110,21 @@ fn compare_prints_one_object() {
     let name = stored("effects");
     let (status, lines) = lines(&["compare", &name, "--ticks", "20"]);
     let line = format!(
-        r#"{{"file":"{name}","number":0,"place":0,"meaning":"accepted","with":"board","equal":true,"ticks":20,"frames":9411}}"#
+        r#"{{"file":"{name}","number":0,"place":0,"meaning":"accepted","with":"board","equal":true,"ticks":20,"frames":9411,"asked_ticks":20,"song_ticks":null}}"#
     );
     assert_eq!((status, lines), (0, vec![line]));
     let sound = own("object.raw");
+    std::fs::write(&sound, [0, 0, 0, 0]).unwrap();
+    let words = ["compare", &name, sound.to_str().unwrap()];
+    let (status, lines) = self::lines(&words);
+    let end = r#""equal":true,"ticks":0,"frames":1,"asked_ticks":null,"song_ticks":192}"#;
+    assert!(status == 0 && lines[0].ends_with(end), "{}", lines[0]);
+    let (status, lines) = self::lines(&[&words[..], &["--ticks", "1"]].concat());
+    let end = r#""equal":false,"ticks":0,"frames":0,"asked_ticks":1,"song_ticks":null,"tick":0,"frame":1,"side":"left","player":0,"other":null}"#;
+    assert!(status == 1 && lines[0].ends_with(end), "{}", lines[0]);
     std::fs::write(&sound, [1, 0, 0, 0]).unwrap();
-    let (status, lines) = self::lines(&["compare", &name, sound.to_str().unwrap()]);
-    let end = r#""equal":false,"ticks":0,"frames":0,"tick":0,"frame":0,"side":"left","player":0,"other":1}"#;
+    let (status, lines) = self::lines(&words);
+    let end = r#""song_ticks":192,"tick":0,"frame":0,"side":"left","player":0,"other":1}"#;
     assert!(status == 1 && lines[0].ends_with(end), "{}", lines[0]);
 }
 
