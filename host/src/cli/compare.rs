@@ -7,15 +7,15 @@ use super::length::ticks_asked;
 use super::number::{Kind, Number, FLOAT, MONO_FLAG};
 use super::output::{counted, say};
 use super::progress::Progress;
-use super::recording::Recording;
+use super::recording::{self, Recording};
 use super::records;
 use super::report::{self, plain_accepted};
 use super::song::{Song, TICK_FRAMES};
-use super::sound::Format;
 use super::stop::Stop;
 use super::stream::translated;
 use super::words::Words;
 use super::Command;
+use std::ffi::OsString;
 
 pub const COMMAND: Command = Command {
     name: "compare",
@@ -30,7 +30,7 @@ Plays the module and says that something else sounds the same, number by number,
 it and from the beginning. The other is
   without a second file, the board with the module's own stream: of N ticks, 1,000 without --ticks and 65,535 at most;
   with a STREAM, the board with that stream and the module's samples;
-  with a SOUND, a recording of 48,000 frames a second.
+  with a SOUND, a recording of 48,000 frames a second; a .wav file on standard input, named -, is one, too.
 All of the other is compared, and how long the song is once through is said beside it. With --ticks N the other must have N ticks: one
 that ends before or goes on is different. --once asks for the ticks until the song comes back to a place where it has been, as info tells.
 --float compares the frames as 32-bit floats, bit for bit, and with --mono one number a frame, as play writes them.
@@ -164,28 +164,29 @@ fn run_with<N: Number>(words: &Words, kind: Kind) -> Result<bool, Stop> {
         0 | 1 => None,
         _ => Some(words.files(["FILE", "STREAM or SOUND"])?[1]),
     };
-    let Some(first) = words.files.first() else {
+    let Some(first) = words.files.first().map(OsString::as_os_str) else {
         return Err(Stop::Usage("no FILE".into()));
     };
-    match second.map(|name| (name, Format::of(name))) {
+    let Some(second) = second else {
+        let file = input::module(first)?;
+        let _ = file.judge()?;
+        let length = Length::of(words, &file)?;
+        let stream = translated(&file, length.asked().unwrap_or(TICKS))?;
+        return with_board::<N>(words, &file, kind, ("board", &stream), &length);
+    };
+    input::check_once(&[first, second])?;
+    let (file, mut other) = (input::module(first)?, input::open(second)?);
+    match recording::format(second, &mut other)? {
         None => {
-            let [file] = input::read_all([first])?;
-            let _ = file.judge()?;
-            let length = Length::of(words, &file)?;
-            let stream = translated(&file, length.asked().unwrap_or(TICKS))?;
-            with_board::<N>(words, &file, kind, ("board", &stream), &length)
-        }
-        Some((name, None)) => {
-            let [file, stream] = input::read_all([first, name])?;
+            let stream = other.whole()?;
             let _ = board::judge(&stream, &file)?;
             let length = Length::of(words, &file)?;
             let stream = (stream.name.as_str(), stream.bytes.as_slice());
             with_board::<N>(words, &file, kind, stream, &length)
         }
-        Some((name, Some(format))) => {
-            let [file] = input::read_all([first])?;
+        Some(format) => {
             let _ = file.judge()?;
-            let recording = Recording::<N>::open(name, format, kind)?;
+            let recording = Recording::<N>::of(other, format, kind)?;
             let (name, length) = (recording.name.clone(), Length::of(words, &file)?);
             let outcome = compare(&file, kind, Other::Recording(recording), length.asked())?;
             tell(words, &file, &name, &length, &outcome)

@@ -34,7 +34,8 @@ Exit status: 0 accepted; 1 refused; 2 wrong use, or a file that cannot be read.
 };
 
 fn run(words: &Words) -> Result<bool, Stop> {
-    let [source] = input::read_all(words.files(["FILE"])?)?;
+    let [name] = words.files(["FILE"])?;
+    let source = input::module(name)?;
     let _ = source.judge()?;
     let course = course(&source)?;
     let (file, course) = (&source.bytes, course.as_ref());

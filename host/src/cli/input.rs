@@ -1,15 +1,18 @@
 //! Reading the files that are named.
+use super::layout;
 use super::place;
 use super::stop::{Refusal, Stop};
 use lampthistle::Answer;
 use std::ffi::OsStr;
 use std::fs::{File, Metadata};
-use std::io::{self, Read};
+use std::io::{self, Cursor, Read};
 use std::os::unix::fs::MetadataExt;
 
 /// Bytes read at most: the longest stream's, and fewer of what may have no end, such as /dev/zero.
 const MOST_BYTES: u64 = 4 + u32::MAX as u64;
 const MOST_ENDLESS: u64 = 1 << 28;
+/// Bytes read of a module: all that are looked at, and one more, which says that others follow.
+const MODULE_BYTES: u64 = 1 + layout::MOST_BYTES as u64;
 
 /// Which file it is, by device and number.
 pub type Identity = (u64, u64);
@@ -60,46 +63,103 @@ pub fn quoted(text: &OsStr) -> String {
 
 /// Reads the files; standard input, named -, at most once.
 pub fn read_all<const N: usize>(names: [&OsStr; N]) -> Result<[Source; N], Stop> {
-    if names.iter().filter(|name| **name == "-").count() > 1 {
-        return Err(twice());
-    }
+    check_once(&names)?;
     let mut sources = Vec::with_capacity(N);
     for name in names {
-        sources.push(read(name)?);
+        sources.push(open(name)?.whole()?);
     }
     sources
         .try_into()
         .map_err(|_| Stop::Cannot("not all files were read".into()))
 }
 
-pub fn twice() -> Stop {
-    Stop::Usage("standard input (-) can be read only once".into())
+/// Stops where standard input is named more than once.
+pub fn check_once(names: &[impl AsRef<OsStr>]) -> Result<(), Stop> {
+    if names.iter().filter(|name| name.as_ref() == "-").count() > 1 {
+        return Err(Stop::Usage(
+            "standard input (-) can be read only once".into(),
+        ));
+    }
+    Ok(())
 }
 
-pub fn read(name: &OsStr) -> Result<Source, Stop> {
+/// A file as far as it says whether it is a module, and its sound.
+pub fn module(name: &OsStr) -> Result<Source, Stop> {
+    let mut file = open(name)?;
+    let bytes = file.take(MODULE_BYTES)?;
+    Ok(file.source(bytes))
+}
+
+/// A file that is open: standard input is named -.
+pub fn open(name: &OsStr) -> Result<Opened, Stop> {
     if name == "-" {
-        return read_from("standard input".into(), io::stdin().lock(), None);
+        return Ok(Opened {
+            name: "standard input".into(),
+            from: Box::new(io::stdin()),
+            identity: None,
+        });
     }
     let text = shown(name);
     let file = File::open(name).map_err(|e| Stop::Io(text.clone(), e))?;
     let identity = file.metadata().ok().and_then(|about| identity(&about));
-    read_from(text, file, identity)
-}
-
-fn read_from(name: String, from: impl Read, identity: Option<Identity>) -> Result<Source, Stop> {
-    let most = identity.map_or(MOST_ENDLESS, |_| MOST_BYTES);
-    let mut bytes = Vec::new();
-    if let Err(e) = from.take(most + 1).read_to_end(&mut bytes) {
-        return Err(Stop::Io(name, e));
-    }
-    if bytes.len() as u64 > most {
-        return Err(Stop::Cannot(format!("{name}: larger than {most} bytes")));
-    }
-    Ok(Source {
-        name,
-        bytes,
+    Ok(Opened {
+        name: text,
+        from: Box::new(file),
         identity,
     })
+}
+
+/// A file's name as messages show it, and what is still to be read of it.
+pub struct Opened {
+    pub name: String,
+    pub from: Box<dyn Read>,
+    identity: Option<Identity>,
+}
+
+impl Opened {
+    fn source(self, bytes: Vec<u8>) -> Source {
+        Source {
+            name: self.name,
+            bytes,
+            identity: self.identity,
+        }
+    }
+
+    fn take(&mut self, most: u64) -> Result<Vec<u8>, Stop> {
+        let mut bytes = Vec::new();
+        match self.from.by_ref().take(most).read_to_end(&mut bytes) {
+            Ok(_) => Ok(bytes),
+            Err(e) => Err(Stop::Io(self.name.clone(), e)),
+        }
+    }
+
+    /// The first bytes, at most so many; they are still to be read.
+    pub fn start(&mut self, most: u64) -> Result<Vec<u8>, Stop> {
+        let bytes = self.take(most)?;
+        let rest = std::mem::replace(&mut self.from, Box::new(io::empty()));
+        self.from = Box::new(Cursor::new(bytes.clone()).chain(rest));
+        Ok(bytes)
+    }
+
+    /// All of the file.
+    pub fn whole(mut self) -> Result<Source, Stop> {
+        let most = self.identity.map_or(MOST_ENDLESS, |_| MOST_BYTES);
+        let bytes = self.take(most + 1)?;
+        if bytes.len() as u64 > most {
+            let name = self.name;
+            return Err(Stop::Cannot(format!("{name}: larger than {most} bytes")));
+        }
+        Ok(self.source(bytes))
+    }
+
+    /// A module as far as it is looked at, or all of another file.
+    pub fn module_or_whole(mut self) -> Result<Source, Stop> {
+        let bytes = self.start(MODULE_BYTES)?;
+        if (bytes.len() as u64) < MODULE_BYTES || lampthistle::judge(&bytes).is_accepted() {
+            return Ok(self.source(bytes));
+        }
+        self.whole()
+    }
 }
 
 /// A regular file's identity.

@@ -39,12 +39,10 @@ fn run(words: &Words) -> Result<bool, Stop> {
     if words.files.is_empty() {
         return Err(Stop::Usage("no FILE".into()));
     }
-    if words.files.iter().filter(|name| *name == "-").count() > 1 {
-        return Err(input::twice());
-    }
+    input::check_once(&words.files)?;
     let (mut all, mut read) = (true, true);
     for name in &words.files {
-        let text = match input::read(name) {
+        let text = match input::module(name) {
             Ok(source) => match source.judge() {
                 Err(Stop::Refused(refusal)) => {
                     all = false;

@@ -10,6 +10,13 @@ pub const TAG: Range<usize> = 1080..1084;
 const PATTERNS: usize = 1084;
 const ROWS: usize = 64;
 const CELL_BYTES: usize = 4;
+const MOST_PATTERNS: usize = 64;
+const SAMPLES: usize = (HEADERS.end - HEADERS.start) / HEADER_BYTES;
+
+/// The bytes of the largest module: no file's bytes after them are looked at.
+pub const MOST_BYTES: usize = PATTERNS
+    + MOST_PATTERNS * ROWS * CELL_BYTES * lampthistle::CHANNELS
+    + SAMPLES * 2 * u16::MAX as usize;
 
 /// A header's parts, from its first byte on.
 const NAME: Range<usize> = 0..22;

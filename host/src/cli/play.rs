@@ -40,7 +40,8 @@ fn run(words: &Words) -> Result<bool, Stop> {
     let asked = Length::asked(words)?;
     let (kind, out) = (Kind::asked(words)?, words.needed("--out")?);
     sound::format(out)?;
-    let [source] = input::read_all(words.files(["FILE"])?)?;
+    let [name] = words.files(["FILE"])?;
+    let source = input::module(name)?;
     let _ = source.judge()?;
     let length = asked.length(&source)?;
     check_room(out, kind, length.most(), |room| {

@@ -1,17 +1,32 @@
 //! A recording of a module, read as it is compared: .wav, or bare numbers.
-use super::input::shown;
+use super::input::Opened;
 use super::number::{Kind, Number};
-use super::sound::{wav_kind, Format};
+use super::output::counted;
+use super::sound::{wav_kind, Format, WAV_FLOATS, WAV_WHOLE};
 use super::stop::Stop;
 use lampthistle::RATE;
 use std::ffi::OsStr;
-use std::fs::File;
 use std::io::{self, BufReader, Read};
+
+/// A .wav file's first bytes.
+const RIFF: &[u8; 4] = b"RIFF";
+
+/// The format of a recording: by its name's ending, or on standard input by its first bytes. None for a stream, which is shorter there than
+/// those bytes would say.
+pub fn format(name: &OsStr, file: &mut Opened) -> Result<Option<Format>, Stop> {
+    match Format::of(name) {
+        None if name == "-" => {
+            let start = file.start(RIFF.len() as u64)?;
+            Ok((start == RIFF).then_some(Format::Wav))
+        }
+        format => Ok(format),
+    }
+}
 
 pub struct Recording<N> {
     pub name: String,
     kind: Kind,
-    from: BufReader<File>,
+    from: BufReader<Box<dyn Read>>,
     /// The bytes that a header says are still to come; none where it leaves that open.
     left: Option<u64>,
     numbers: Vec<N>,
@@ -19,18 +34,18 @@ pub struct Recording<N> {
 
 impl<N: Number> Recording<N> {
     /// A recording of numbers of this kind.
-    pub fn open(name: &OsStr, format: Format, kind: Kind) -> Result<Recording<N>, Stop> {
-        let told = |e| Stop::Io(shown(name), e);
-        let mut from = BufReader::new(File::open(name).map_err(told)?);
+    pub fn of(file: Opened, format: Format, kind: Kind) -> Result<Recording<N>, Stop> {
+        let (name, mut from) = (file.name, BufReader::new(file.from));
         let left = match format {
             Format::Raw => None,
-            Format::Wav => match wav_sound(&mut from, kind).map_err(told)? {
-                Ok(left) => left,
-                Err(what) => return Err(Stop::Cannot(format!("{}: {what}", shown(name)))),
+            Format::Wav => match wav_sound(&mut from, kind) {
+                Ok(Ok(left)) => left,
+                Ok(Err(what)) => return Err(Stop::Cannot(format!("{name}: {what}"))),
+                Err(e) => return Err(Stop::Io(name, e)),
             },
         };
         Ok(Recording {
-            name: shown(name),
+            name,
             kind,
             from,
             left,
@@ -62,10 +77,11 @@ impl<N: Number> Recording<N> {
 
 /// Reads a .wav file up to its sound, and gives the sound's bytes, none where they are left open; or says what is wrong.
 fn wav_sound(from: &mut impl Read, kind: Kind) -> io::Result<Result<Option<u64>, String>> {
-    const OPEN: u32 = u32::MAX;
+    /// Lengths that are left open: ours, and what sox writes to a pipe.
+    const OPEN: [u32; 2] = [u32::MAX, 0x7FFF_F000];
     let mut start = [0; 12];
     from.read_exact(&mut start)?;
-    if &start[..4] != b"RIFF" || &start[8..] != b"WAVE" {
+    if &start[..4] != RIFF || &start[8..] != b"WAVE" {
         return Ok(Err("is not a .wav file".into()));
     }
     let mut right = Err("says nothing of its numbers before its sound".to_string());
@@ -73,23 +89,29 @@ fn wav_sound(from: &mut impl Read, kind: Kind) -> io::Result<Result<Option<u64>,
         let mut chunk = [0; 8];
         from.read_exact(&mut chunk)?;
         let size = u32::from_le_bytes([chunk[4], chunk[5], chunk[6], chunk[7]]);
+        let mut rest = u64::from(size);
         match &chunk[..4] {
-            b"data" => return Ok(right.map(|()| (size != OPEN).then_some(size.into()))),
+            b"data" => return Ok(right.map(|()| (!OPEN.contains(&size)).then_some(rest))),
             b"fmt " => {
                 let mut about = Vec::new();
-                from.take(size.into()).read_to_end(&mut about)?;
+                let read = from.take(rest.min(WAV_ABOUT)).read_to_end(&mut about)?;
+                rest -= read as u64;
                 right = wav_format(&about, kind);
             }
-            _ => skip(from, size.into())?,
+            _ => (),
         }
         // A part of odd length is followed by a byte that does not count.
-        skip(from, u64::from(size % 2))?;
+        skip(from, rest + u64::from(size % 2))?;
     }
 }
 
 fn skip(from: &mut impl Read, bytes: u64) -> io::Result<()> {
     io::copy(&mut from.take(bytes), &mut io::sink()).map(|_| ())
 }
+
+/// The bytes about its numbers that a .wav file has at most, and those that always follow where the kind stands among them.
+const WAV_ABOUT: u64 = 40;
+const AFTER_KIND: [u8; 14] = *b"\0\0\0\0\x10\0\x80\0\0\xAA\0\x38\x9B\x71";
 
 /// Whether the numbers are as ours: 48,000 frames a second of numbers of this kind.
 fn wav_format(about: &[u8], kind: Kind) -> Result<(), String> {
@@ -101,9 +123,13 @@ fn wav_format(about: &[u8], kind: Kind) -> Result<(), String> {
             .map_or(0, |b| u16::from_le_bytes([b[0], b[1]]))
     };
     let rate = u32::from(word(4)) + (u32::from(word(6)) << 16);
-    let (found, sides, bits) = (word(0), word(2), word(14));
+    let (sides, bits) = (word(2), word(14));
+    let found = match word(0) {
+        ELSEWHERE if about.get(26..40) == Some(&AFTER_KIND) => word(24),
+        found => found,
+    };
     let own = (RATE, kind.sides() as u16, 8 * kind.number_bytes() as u16);
-    if [wav_kind(kind), ELSEWHERE].contains(&found) && (rate, sides, bits) == own {
+    if wav_kind(kind) == found && (rate, sides, bits) == own {
         return Ok(());
     }
     let expected = match kind {
@@ -111,7 +137,12 @@ fn wav_format(about: &[u8], kind: Kind) -> Result<(), String> {
         Kind::Floats(1) => "one float",
         Kind::Floats(_) => "two floats",
     };
+    let numbers = match found {
+        WAV_WHOLE => counted(sides.into(), "whole number"),
+        WAV_FLOATS => counted(sides.into(), "float"),
+        _ => format!("{} of kind {found}", counted(sides.into(), "number")),
+    };
     Err(format!(
-        "is not {RATE} frames a second of {expected}: {rate}, {sides} of {bits} bits, kind {found}"
+        "is not {RATE} frames a second of {expected}, but {rate} of {numbers} of {bits} bits"
     ))
 }

@@ -15,6 +15,10 @@ const WAV_UNCOUNTED: u32 = 8;
 /// All lengths of a .wav file as long as it is not finished: as far as the file goes.
 const UNFINISHED: u32 = u32::MAX;
 
+/// The kinds of a .wav file's numbers that are ours: whole ones, and floats.
+pub const WAV_WHOLE: u16 = 1;
+pub const WAV_FLOATS: u16 = 3;
+
 /// How frames are written.
 #[derive(Clone, Copy, PartialEq, Eq)]
 pub enum Format {
@@ -158,11 +162,11 @@ fn wav_start(kind: Kind, bytes: Option<u32>) -> Vec<u8> {
     start
 }
 
-/// What a .wav file calls its numbers: whole ones, or floats.
+/// What a .wav file calls its numbers.
 pub fn wav_kind(kind: Kind) -> u16 {
     match kind {
-        Kind::Whole => 1,
-        Kind::Floats(_) => 3,
+        Kind::Whole => WAV_WHOLE,
+        Kind::Floats(_) => WAV_FLOATS,
     }
 }
 

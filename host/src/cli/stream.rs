@@ -54,7 +54,8 @@ Exit status: 0 accepted; 1 refused, and OUT is not written; 2 wrong use, or a fi
 fn run_translate(words: &Words) -> Result<bool, Stop> {
     let out = words.needed("--out")?;
     check_terminal(out)?;
-    let [source] = input::read_all(words.files(["FILE"])?)?;
+    let [name] = words.files(["FILE"])?;
+    let source = input::module(name)?;
     let Some(ticks) = ticks_asked(words, &source)? else {
         return Err(Stop::Usage("no --ticks".into()));
     };
@@ -87,7 +88,9 @@ pub fn translated(source: &Source, ticks: u32) -> Result<Vec<u8>, Stop> {
 fn run_board(words: &Words) -> Result<bool, Stop> {
     let (kind, out) = (Kind::asked(words)?, words.needed("--out")?);
     sound::format(out)?;
-    let [stream, file] = input::read_all(words.files(["STREAM", "FILE"])?)?;
+    let names = words.files(["STREAM", "FILE"])?;
+    input::check_once(&names)?;
+    let (stream, file) = (input::open(names[0])?.whole()?, input::module(names[1])?);
     let _ = board::judge(&stream, &file)?;
     let frames = records::frames(&stream.bytes);
     check_room(out, kind, frames, |_| Ok(frames))?;

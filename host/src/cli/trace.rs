@@ -61,7 +61,8 @@ struct Tick<'a> {
 }
 
 fn run(words: &Words) -> Result<bool, Stop> {
-    let [source] = input::read_all(words.files(["FILE"])?)?;
+    let [name] = words.files(["FILE"])?;
+    let source = input::open(name)?.module_or_whole()?;
     let (stream, mut song, ticks) = asked(words, &source)?;
     let channels = channels(&stream);
     let mut text = heading(words, stream.len() as u64, channels);

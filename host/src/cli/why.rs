@@ -45,7 +45,8 @@ const TICKS: u32 = 1;
 fn run(words: &Words) -> Result<bool, Stop> {
     let ticks = words.number("--ticks")?.unwrap_or(TICKS);
     let asked = words.number("--channel")?;
-    let [source] = input::read_all(words.files(["FILE"])?)?;
+    let [name] = words.files(["FILE"])?;
+    let source = input::module(name)?;
     let _ = source.judge()?;
     let mut song = Song::new(&source.bytes);
     let channels = match asked {

@@ -48,6 +48,14 @@ pub fn in_time(command: &mut Command) -> Output {
     child.wait_with_output().expect("it ended")
 }
 
+/// Runs the command in an address space of 64 MB; what is resident is a part of it.
+pub fn in_small_memory(words: &[&str], out: Stdio) -> (i32, String, String) {
+    let script = "ulimit -v 62500; exec \"$0\" \"$@\"";
+    let mut shell = Command::new("sh");
+    shell.args(["-c", script, env!("CARGO_BIN_EXE_lampthistle")]);
+    said(shell.args(words).stdout(out).output().unwrap())
+}
+
 /// An empty folder of this name in the tests' own folder.
 pub fn folder(name: &str) -> PathBuf {
     let folder = own(name);

@@ -171,22 +171,22 @@ fn a_recording_of_another_kind_is_told() {
         (
             &two,
             &[][..],
-            "of two whole 16-bit numbers: 48000, 2 of 32 bits, kind 3",
+            "of two whole 16-bit numbers, but 48000 of 2 floats of 32 bits",
         ),
         (
             &whole,
             KINDS[0].0,
-            "of two floats: 48000, 2 of 16 bits, kind 1",
+            "of two floats, but 48000 of 2 whole numbers of 16 bits",
         ),
         (
             &one,
             KINDS[0].0,
-            "of two floats: 48000, 1 of 32 bits, kind 3",
+            "of two floats, but 48000 of 1 float of 32 bits",
         ),
         (
             &two,
             KINDS[1].0,
-            "of one float: 48000, 2 of 32 bits, kind 3",
+            "of one float, but 48000 of 2 floats of 32 bits",
         ),
     ] {
         let (status, out, err) = told(&with(&["compare", module, sound], options));

@@ -7,6 +7,7 @@ mod finetunes;
 mod floats;
 mod objects;
 mod outputs;
+mod recordings;
 mod robust;
 mod songs;
 mod sounds;

@@ -1,5 +1,5 @@
 //! Wrong use, and files that cannot be read or written: a clear message and the exit status, never a panic.
-use crate::common::{command, own, run, said, stored, told};
+use crate::common::{command, in_small_memory, own, run, said, stored, told};
 use std::ffi::OsString;
 use std::fs::File;
 use std::io::Read;
@@ -69,7 +69,46 @@ fn files_that_are_no_modules_are_refused() {
 
 #[test]
 fn a_file_without_an_end_is_an_error() {
-    assert!(stops(&["judge", "/dev/zero"]).contains("/dev/zero: larger than"));
+    assert!(stops(&["trace", "/dev/zero"]).contains("/dev/zero: larger than"));
+    let (status, out, _) = told(&["judge", "--plain", "/dev/zero"]);
+    assert_eq!((status, out.as_str()), (1, "2 1080 0 /dev/zero\n"));
+}
+
+#[test]
+fn a_module_is_read_to_the_length_of_the_largest() {
+    const LARGEST: u64 = 4_195_326;
+    // 64 patterns of eight channels, and 31 samples of 65,535 words.
+    let mut start = vec![0; 1_084];
+    for header in start[20..950].chunks_exact_mut(30) {
+        header[22..24].fill(0xFF);
+    }
+    (start[950], start[1_079]) = (1, 63);
+    start[1_080..].copy_from_slice(b"8CHN");
+    let (largest, zeros) = (own("largest.mod"), own("zeros_4_gib.mod"));
+    std::fs::write(&largest, start).unwrap();
+    let file = File::options().write(true).open(&largest).unwrap();
+    let (largest, zeros) = (largest.to_str().unwrap(), zeros.to_str().unwrap());
+    File::create(zeros).unwrap().set_len(1 << 32).unwrap();
+    let judged = |name| in_small_memory(&["judge", "--plain", name], Stdio::piped());
+    file.set_len(LARGEST - 1).unwrap();
+    assert_eq!(judged(largest).0, 1);
+    for length in [LARGEST, LARGEST + 1, 1 << 32] {
+        file.set_len(length).unwrap();
+        let answer = (0, format!("0 0 0 {largest}\n"), String::new());
+        assert_eq!(judged(largest), answer, "{length}");
+    }
+    assert_eq!(judged(zeros).1, format!("2 1080 0 {zeros}\n"));
+    for words in [
+        &["info", "--plain", largest][..],
+        &["why", "--plain", largest],
+        &["trace", "--plain", largest],
+        &["translate", largest, "--ticks", "1", "--out", "-"],
+        &["play", largest, "--ticks", "1", "--out", "-"],
+        &["compare", largest, "--ticks", "1"],
+    ] {
+        let (status, _, err) = in_small_memory(words, Stdio::null());
+        assert_eq!(status, 0, "{words:?}: {err}");
+    }
 }
 
 #[test]

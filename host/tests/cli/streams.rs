@@ -1,7 +1,7 @@
 //! What the commands for tick streams print and write.
-use crate::common::{older, own, said, stored, told};
+use crate::common::{in_small_memory, older, own, stored, told};
 use std::os::unix::fs::symlink;
-use std::process::{Command, Stdio};
+use std::process::Stdio;
 
 fn translated(module: &str, ticks: &str, name: &str) -> String {
     let stream = own(name).to_str().unwrap().to_string();
@@ -69,14 +69,6 @@ fn silence(name: &str, ticks: u32) -> String {
     let stream = own(name);
     std::fs::write(&stream, bytes).unwrap();
     stream.to_str().unwrap().into()
-}
-
-/// Runs the command in an address space of 64 MB; what is resident is a part of it.
-fn in_small_memory(words: &[&str], out: Stdio) -> (i32, String, String) {
-    let script = "ulimit -v 62500; exec \"$0\" \"$@\"";
-    let mut shell = Command::new("sh");
-    shell.args(["-c", script, env!("CARGO_BIN_EXE_lampthistle")]);
-    said(shell.args(words).stdout(out).output().unwrap())
 }
 
 #[test]
