@@ -12,7 +12,7 @@ use super::records;
 use super::report::{self, plain_accepted};
 use super::song::{Song, TICK_FRAMES};
 use super::stop::Stop;
-use super::stream::translated;
+use super::stream::translated_for;
 use super::words::Words;
 use super::Command;
 use std::ffi::OsString;
@@ -171,7 +171,8 @@ fn run_with<N: Number>(words: &Words, kind: Kind) -> Result<bool, Stop> {
         let file = input::module(first)?;
         let _ = file.judge()?;
         let length = Length::of(words, &file)?;
-        let stream = translated(&file, length.asked().unwrap_or(TICKS))?;
+        let ticks = length.asked().unwrap_or(TICKS);
+        let stream = translated_for(&file, ticks, "more than 65,535 ticks for the board to play")?;
         return with_board::<N>(words, &file, kind, ("board", &stream), &length);
     };
     input::check_once(&[first, second])?;
@@ -179,7 +180,8 @@ fn run_with<N: Number>(words: &Words, kind: Kind) -> Result<bool, Stop> {
     match recording::format(second, &mut other)? {
         None => {
             let stream = other.whole()?;
-            let _ = board::judge(&stream, &file)?;
+            let judged = board::judge(&stream, &file);
+            let _ = judged.map_err(|stop| recording::no_stream(&stream, stop))?;
             let length = Length::of(words, &file)?;
             let stream = (stream.name.as_str(), stream.bytes.as_slice());
             with_board::<N>(words, &file, kind, stream, &length)

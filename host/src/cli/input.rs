@@ -40,6 +40,7 @@ impl Source {
         Stop::Refused(Refusal {
             name: self.name.clone(),
             answer,
+            meaning: answer.meaning(),
             found: place::found(&self.bytes, &answer),
         })
     }

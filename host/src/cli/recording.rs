@@ -1,15 +1,19 @@
 //! A recording of a module, read as it is compared: .wav, or bare numbers.
-use super::input::Opened;
+use super::input::{Opened, Source};
 use super::number::{Kind, Number};
 use super::output::counted;
 use super::sound::{wav_kind, Format, WAV_FLOATS, WAV_WHOLE};
 use super::stop::Stop;
 use lampthistle::RATE;
 use std::ffi::OsStr;
-use std::io::{self, BufReader, Read};
+use std::io::{self, BufReader, ErrorKind, Read};
 
-/// A .wav file's first bytes.
+/// A .wav file's first bytes, how many tell what a file is, and the format's name.
 const RIFF: &[u8; 4] = b"RIFF";
+const START: u64 = 12;
+const WAV: &str = ".wav";
+/// What is said of a .wav file that has no more than its beginning.
+const CUT: &str = "is cut: it ends before its sound";
 
 /// The format of a recording: by its name's ending, or on standard input by its first bytes. None for a stream, which is shorter there than
 /// those bytes would say.
@@ -79,15 +83,18 @@ impl<N: Number> Recording<N> {
 fn wav_sound(from: &mut impl Read, kind: Kind) -> io::Result<Result<Option<u64>, String>> {
     /// Lengths that are left open: ours, and what sox writes to a pipe.
     const OPEN: [u32; 2] = [u32::MAX, 0x7FFF_F000];
-    let mut start = [0; 12];
-    from.read_exact(&mut start)?;
-    if &start[..4] != RIFF || &start[8..] != b"WAVE" {
-        return Ok(Err("is not a .wav file".into()));
+    let mut start = Vec::new();
+    from.take(START).read_to_end(&mut start)?;
+    if let Err(what) = wav_start(&start) {
+        return Ok(Err(what));
     }
     let mut right = Err("says nothing of its numbers before its sound".to_string());
     loop {
         let mut chunk = [0; 8];
-        from.read_exact(&mut chunk)?;
+        match from.read_exact(&mut chunk) {
+            Err(e) if e.kind() == ErrorKind::UnexpectedEof => return Ok(Err(CUT.into())),
+            read => read?,
+        }
         let size = u32::from_le_bytes([chunk[4], chunk[5], chunk[6], chunk[7]]);
         let mut rest = u64::from(size);
         match &chunk[..4] {
@@ -102,6 +109,47 @@ fn wav_sound(from: &mut impl Read, kind: Kind) -> io::Result<Result<Option<u64>,
         }
         // A part of odd length is followed by a byte that does not count.
         skip(from, rest + u64::from(size % 2))?;
+    }
+}
+
+/// Whether a file's first bytes are a .wav file's; or says what is wrong.
+fn wav_start(start: &[u8]) -> Result<(), String> {
+    match (start, sound_format(start)) {
+        ([], _) => Err("is empty".into()),
+        (_, Some(WAV)) => Ok(()),
+        (_, Some(format)) => Err(format!("is a sound file of format {format}, not .wav")),
+        _ if start.len() < START as usize && start.iter().zip(RIFF).all(|(a, b)| a == b) => {
+            Err(CUT.into())
+        }
+        _ => Err("is not a .wav file".into()),
+    }
+}
+
+/// The format that a sound file's first bytes tell.
+fn sound_format(start: &[u8]) -> Option<&'static str> {
+    match (start.get(..4)?, start.get(8..START as usize)) {
+        (b"RIFF", Some(b"WAVE")) => Some(WAV),
+        (b"FORM", Some(b"AIFF" | b"AIFC")) => Some("AIFF"),
+        (b"RF64", _) => Some("RF64"),
+        (b"fLaC", _) => Some("FLAC"),
+        (b"OggS", _) => Some("Ogg"),
+        (b"caff", _) => Some("CAF"),
+        (b".snd", _) => Some("AU"),
+        _ => None,
+    }
+}
+
+/// Why a file that is refused as a stream is none, where its first bytes tell that it is a sound file.
+pub fn no_stream(file: &Source, stop: Stop) -> Stop {
+    let start = &file.bytes[..file.bytes.len().min(START as usize)];
+    match (&stop, sound_format(start)) {
+        (Stop::Refused(refusal), Some(format)) if refusal.name == file.name => {
+            let name = &file.name;
+            Stop::Cannot(format!(
+                "{name}: is a sound file of format {format}; a recording's name ends in .wav or .raw"
+            ))
+        }
+        _ => stop,
     }
 }
 

@@ -12,24 +12,20 @@ pub fn refused(words: &Words, refusal: &Refusal) -> Result<(), Stop> {
 }
 
 pub fn refusal_line(words: &Words, refusal: &Refusal) -> String {
-    let Refusal {
-        name,
-        answer,
-        found,
-    } = refusal;
+    let (line, found) = (refusal.line(), &refusal.found);
     if words.json {
         json::object(refusal_fields(refusal))
     } else if words.plain {
-        plain(answer)
+        plain(&refusal.answer)
     } else if found.is_empty() {
-        format!("{name}: {answer}\n")
+        format!("{line}\n")
     } else {
-        format!("{name}: {answer} ({})\n", place::shown(found))
+        format!("{line} ({})\n", place::shown(found))
     }
 }
 
 fn refusal_fields(refusal: &Refusal) -> Fields {
-    let mut fields = answered(&refusal.name, &refusal.answer);
+    let mut fields = meant(&refusal.name, &refusal.answer, refusal.meaning);
     let found = refusal.found.iter();
     fields.extend(found.map(|(name, value)| (*name, value.clone())));
     fields
@@ -42,11 +38,15 @@ pub fn accepted(name: &str) -> Fields {
 
 /// The first fields of an answer's object.
 pub fn answered(name: &str, answer: &Answer) -> Fields {
+    meant(name, answer, answer.meaning())
+}
+
+fn meant(name: &str, answer: &Answer, meaning: &str) -> Fields {
     vec![
         ("file", name.into()),
         ("number", answer.number.into()),
         ("place", answer.place.into()),
-        ("meaning", answer.meaning().into()),
+        ("meaning", meaning.into()),
     ]
 }
 

@@ -17,8 +17,18 @@ pub enum Stop {
 pub struct Refusal {
     pub name: String,
     pub answer: Answer,
+    /// What it means for the command.
+    pub meaning: &'static str,
     /// The place in words, and what stands there.
     pub found: Fields,
+}
+
+impl Refusal {
+    pub fn line(&self) -> String {
+        let (name, meaning) = (&self.name, self.meaning);
+        let Answer { number, place, .. } = self.answer;
+        format!("{name}: refused {number} at {place}: {meaning}")
+    }
 }
 
 impl Stop {
@@ -47,7 +57,7 @@ impl Stop {
         match self {
             Stop::Usage(what) | Stop::Cannot(what) => what.clone(),
             Stop::Io(_, e) => cause(e),
-            Stop::Refused(refusal) => format!("{}: {}", refusal.name, refusal.answer),
+            Stop::Refused(refusal) => refusal.line(),
             Stop::Told => String::new(),
         }
     }

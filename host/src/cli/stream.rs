@@ -11,6 +11,7 @@ use super::sound::{self, check_room, Sound};
 use super::stop::Stop;
 use super::words::Words;
 use super::Command;
+use lampthistle::refusal;
 
 pub const TRANSLATE: Command = Command {
     name: "translate",
@@ -72,9 +73,9 @@ fn run_translate(words: &Words) -> Result<bool, Stop> {
 }
 
 /// The stream of so many ticks. The first call, with no room, asks for the length.
-pub fn translated(source: &Source, ticks: u32) -> Result<Vec<u8>, Stop> {
+fn translated(source: &Source, ticks: u32) -> Result<Vec<u8>, Stop> {
     let asked = lampthistle::translate(&source.bytes, ticks, &mut []);
-    if asked.number != lampthistle::refusal::ROOM {
+    if asked.number != refusal::ROOM {
         return Err(source.refused(asked));
     }
     let mut room = vec![0; asked.place as usize];
@@ -83,6 +84,21 @@ pub fn translated(source: &Source, ticks: u32) -> Result<Vec<u8>, Stop> {
         return Err(source.refused(answer));
     }
     Ok(room)
+}
+
+/// The same for a command that has other words for too many ticks.
+pub fn translated_for(
+    source: &Source,
+    ticks: u32,
+    too_many: &'static str,
+) -> Result<Vec<u8>, Stop> {
+    translated(source, ticks).map_err(|stop| match stop {
+        Stop::Refused(mut refused) if refused.answer.number == refusal::TICKS => {
+            refused.meaning = too_many;
+            Stop::Refused(refused)
+        }
+        other => other,
+    })
 }
 
 fn run_board(words: &Words) -> Result<bool, Stop> {

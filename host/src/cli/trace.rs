@@ -8,7 +8,7 @@ use super::records::{channels, records, version, Command as Registers, Lengths, 
 use super::report::plain_accepted;
 use super::song::{Song, TICK_FRAMES};
 use super::stop::Stop;
-use super::stream::translated;
+use super::stream::translated_for;
 use super::waves;
 use super::words::Words;
 use super::Command;
@@ -100,7 +100,8 @@ fn asked(words: &Words, source: &Source) -> Result<(Vec<u8>, Option<Song<'static
     if !is_stream(source)? {
         let ticks = ticks_asked(words, source)?.unwrap_or(TICKS);
         let song = Song::silent(&source.bytes);
-        return Ok((translated(source, ticks)?, Some(song), ticks));
+        let stream = translated_for(source, ticks, "more than 65,535 ticks of a module to show")?;
+        return Ok((stream, Some(song), ticks));
     }
     if words.has("--once") {
         return Err(Stop::Usage("--once: a stream has no places".into()));

@@ -116,6 +116,45 @@ fn a_wav_file_is_read_from_standard_input() {
     );
 }
 
+/// Compares with a file of these bytes, which must end with 2 and this reason.
+fn no_recording(name: &str, bytes: &[u8], reason: &str) {
+    let path = own(name);
+    std::fs::write(&path, bytes).unwrap();
+    let path = path.to_str().unwrap();
+    let (status, out, err) = told(&["compare", &stored("effects"), path]);
+    assert_eq!((status, out.as_str()), (2, ""), "{reason}: {err}");
+    assert_eq!(err, format!("lampthistle: {path}: {reason}\n"));
+}
+
+#[test]
+fn an_empty_or_short_wav_file_is_told() {
+    let name = "short.wav";
+    let whole = wav(name, &about(WHOLE, 16), &sound(&[]));
+    let whole = std::fs::read(whole).unwrap();
+    no_recording(name, b"", "is empty");
+    // Up to the last byte before the sound.
+    for length in [1, 4, 11, 12, 19, 20, 30, 44, 55] {
+        no_recording(name, &whole[..length], "is cut: it ends before its sound");
+    }
+    no_recording(name, b"no", "is not a .wav file");
+    no_recording(name, b"no sound at all", "is not a .wav file");
+}
+
+#[test]
+fn files_of_other_formats_are_told_by_name() {
+    let (flac, aiff) = (b"fLaC\0\0\0\x22", b"FORM\0\0\x10\0AIFFCOMM");
+    let name = "other.wav";
+    let whole = wav(name, &about(WHOLE, 16), &sound(&[]));
+    let whole = std::fs::read(whole).unwrap();
+    no_recording(name, flac, "is a sound file of format FLAC, not .wav");
+    no_recording(name, aiff, "is a sound file of format AIFF, not .wav");
+    let ends = "; a recording's name ends in .wav or .raw";
+    let named = |format: &str| format!("is a sound file of format {format}{ends}");
+    no_recording("other.flac", flac, &named("FLAC"));
+    no_recording("other.aiff", aiff, &named("AIFF"));
+    no_recording("other", &whole, &named(".wav"));
+}
+
 #[test]
 fn a_claimed_size_takes_no_memory() {
     let name = wav("claimed.wav", &about(WHOLE, 16), &[]);
@@ -127,5 +166,5 @@ fn a_claimed_size_takes_no_memory() {
     let words = ["compare", &stored("effects"), &name];
     let (status, out, err) = in_small_memory(&words, Stdio::piped());
     assert_eq!((status, out.as_str()), (2, ""), "{err}");
-    assert!(!err.contains("memory"), "{err}");
+    assert!(err.ends_with("is cut: it ends before its sound\n"), "{err}");
 }

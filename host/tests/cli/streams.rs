@@ -49,14 +49,24 @@ fn bad_streams_are_refused_and_nothing_is_written() {
 #[test]
 fn too_many_ticks_are_refused() {
     let module = stored("flow");
-    for command in ["translate", "trace", "compare"] {
-        let mut words = vec![command, "--plain", &module, "--ticks", "65536"];
+    for (command, to) in [
+        ("translate", "to translate"),
+        ("trace", "of a module to show"),
+        ("compare", "for the board to play"),
+    ] {
+        let mut words = vec![command, &module, "--ticks", "65536"];
         if command == "translate" {
             words.extend(["--out", "too_many.stream"]);
         }
+        let line = format!("{module}: refused 11 at 0: more than 65,535 ticks {to}\n");
+        assert_eq!(told(&words), (1, line, String::new()));
+        words.push("--plain");
         let (status, out, _) = told(&words);
         assert_eq!((status, out.as_str()), (1, "11 0 0\n"), "{command}");
     }
+    let (_, out, _) = told(&["trace", &module, "--ticks", "65536", "--json"]);
+    let end = "\"meaning\":\"more than 65,535 ticks of a module to show\"}\n";
+    assert!(out.ends_with(end), "{out}");
     assert!(!own("too_many.stream").exists());
 }
 
