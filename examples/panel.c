@@ -4,6 +4,7 @@
    `lampthistle replay MODULE RECORD --check` plays again. It ends with 1 where the module is refused, and with 2 where a file cannot be
    read or written. */
 #include "files.h"
+#include <stdarg.h>
 
 enum { BLOCK_NUMBERS = 2 * 512, BLOCKS = 400 };
 
@@ -46,6 +47,8 @@ typedef struct panel {
     size_t taken, filled; /* numbers of `tick` that the driver has, and that there are */
     uint32_t ticks;       /* played since the record's last line */
     uint64_t sum;         /* of all frames */
+    uint32_t calls;       /* that the record has */
+    uint64_t record_sum;  /* of the record's bytes */
     FILE *out, *record;
 } panel;
 
@@ -57,12 +60,30 @@ static uint64_t add_byte(uint64_t sum, unsigned byte) {
     return (sum ^ byte) * UINT64_C(0x100000001b3);
 }
 
+/* Writes a part of the record, which is shorter than the text here. */
+static void note(panel *p, const char *format, ...) {
+    char text[256];
+    va_list values;
+    size_t k;
+    va_start(values, format);
+    vsnprintf(text, sizeof text, format, values);
+    va_end(values);
+    for (k = 0; text[k] != 0; k++) p->record_sum = add_byte(p->record_sum, (unsigned char)text[k]);
+    fputs(text, p->record);
+}
+
 static void begin_record(panel *p) {
     uint64_t sum = SUM_START;
     size_t k;
     for (k = 0; k < p->length; k++) sum = add_byte(sum, p->module[k]);
-    fprintf(p->record, "record 1\nprogram panel %s\nmodule %016" PRIx64 "\n", LAMPTHISTLE_VERSION_TEXT, sum);
     p->sum = SUM_START;
+    p->record_sum = SUM_START;
+    note(p, "record 2\nprogram panel %s\nmodule %016" PRIx64 "\n", LAMPTHISTLE_VERSION_TEXT, sum);
+}
+
+/* The last line, without which a record counts as cut. */
+static void end_record(panel *p) {
+    fprintf(p->record, "end %" PRIu32 " %016" PRIx64 "\n", p->calls, p->record_sum);
 }
 
 static void add_frames(panel *p) {
@@ -76,17 +97,17 @@ static void add_frames(panel *p) {
 /* A call's results: its answer, and of a burst each touch's; the clock after it, and the sum so far. */
 static void write_results(panel *p, const uint64_t *answer, const uint32_t *answers) {
     uint64_t k;
-    fprintf(p->record, " = %" PRIu64 " %" PRIu64 " %" PRIu64, answer[LAMPTHISTLE_NUMBER], answer[LAMPTHISTLE_PLACE],
-            answer[LAMPTHISTLE_COUNT]);
-    for (k = 0; answers && k < answer[LAMPTHISTLE_COUNT]; k++) fprintf(p->record, " %" PRIu32, answers[k]);
-    fprintf(p->record, " %" PRIu32 " %016" PRIx64 "\n", p->state.cell[LAMPTHISTLE_CLOCK], p->sum);
+    note(p, " = %" PRIu64 " %" PRIu64 " %" PRIu64, answer[LAMPTHISTLE_NUMBER], answer[LAMPTHISTLE_PLACE], answer[LAMPTHISTLE_COUNT]);
+    for (k = 0; answers && k < answer[LAMPTHISTLE_COUNT]; k++) note(p, " %" PRIu32, answers[k]);
+    note(p, " %" PRIu32 " %016" PRIx64 "\n", p->state.cell[LAMPTHISTLE_CLOCK], p->sum);
+    p->calls++;
 }
 
 /* The ticks since the last line, as one call. */
 static void write_ticks(panel *p) {
     const uint64_t answer[LAMPTHISTLE_ANSWER_CELLS] = {LAMPTHISTLE_ACCEPTED, 0, p->ticks};
     if (p->ticks == 0) return;
-    fprintf(p->record, "play %" PRIu32, p->ticks);
+    note(p, "play %" PRIu32, p->ticks);
     write_results(p, answer, NULL);
     p->ticks = 0;
 }
@@ -102,8 +123,8 @@ static void hand_over(panel *p) {
     write_ticks(p);
     lampthistle_touch_burst(p->module, p->length, p->state.cell, b->pages, b->touches, b->mades, b->touches, b->positions, b->touches,
                             answers, LAMPTHISTLE_MOST_TOUCHES, answer);
-    fprintf(p->record, "burst");
-    for (k = 0; k < b->touches; k++) fprintf(p->record, " %" PRIu32 " %" PRIu32 " %" PRIu32, b->pages[k], b->mades[k], b->positions[k]);
+    note(p, "burst");
+    for (k = 0; k < b->touches; k++) note(p, " %" PRIu32 " %" PRIu32 " %" PRIu32, b->pages[k], b->mades[k], b->positions[k]);
     write_results(p, answer, answers);
     b->touches = 0;
 }
@@ -124,7 +145,7 @@ static void turn_page(panel *p) {
     hand_over(p);
     write_ticks(p);
     lampthistle_change_page(p->module, p->length, p->state.cell, answer);
-    fprintf(p->record, "page");
+    note(p, "page");
     write_results(p, answer, NULL);
 }
 
@@ -181,6 +202,7 @@ static int play_blocks(panel *p, char **word) {
         if (fwrite(block, sizeof *block, BLOCK_NUMBERS, p->out) != BLOCK_NUMBERS) return cannot(word[2]);
     }
     write_ticks(p);
+    end_record(p);
     if (fflush(p->out) != 0) return cannot(word[2]);
     if (ferror(p->record) || fflush(p->record) != 0) return cannot(word[3]);
     return DONE;

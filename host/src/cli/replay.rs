@@ -4,7 +4,7 @@ use super::json::{self, Fields, Value};
 use super::number::Kind;
 use super::output::{self, counted, write_bytes};
 use super::report::{self, plain_accepted};
-use super::script::{self, Call, Results, Script};
+use super::script::{self, Call, Differs, Results, Script};
 use super::song::TICK_FRAMES;
 use super::sound::{self, check_room, Sound};
 use super::stop::Stop;
@@ -30,8 +30,9 @@ Runs a trial again, from a fresh state. A line of SCRIPT is one call:
 # begins a comment. Prints each call's answer, and the clock, page and place after it; the frames go to OUT, as in play. A refused touch
 changes nothing, and the trial goes on: a trial that ran ends with 0.
 --record writes the script again to RECORD, with the module's checksum, and for each call its answer, the clock and a checksum of the
-frames so far (docs/FORMATS.md). A record is a script, too.
---check plays a record, and says that every answer and checksum came again, or which line differs first and how.
+frames so far; its last line says how many calls it has, with a checksum of the record (docs/FORMATS.md). A record is a script, too.
+--check plays a record, and says that every answer and checksum came again, or which line differs first and how. A record that was cut or
+changed after it was written does not hold; nor does one of version 1, as programs before 0.7.0 wrote it, which does not say where it ends.
 --plain prints NUMBER PLACE COUNT CLOCK PAGE POSITION ROW TICK a call, and after them each touch's answer, of burst, or each channel's
 cause, of why; with --check NUMBER PLACE COUNT, the count in calls. --json prints an object a call; with --check one.
 
@@ -72,7 +73,7 @@ fn run(words: &Words) -> Result<bool, Stop> {
     };
     let mut trial = Trial::new(&source.bytes, sound);
     if words.has("--check") {
-        let differs = check(&mut trial, &source, &script, &text.name)?;
+        let differs = check(&mut trial, &source, &script, &text)?;
         if differs.is_none() {
             trial.finish()?;
         }
@@ -128,23 +129,24 @@ fn replay(
         };
         recorded += &line.recorded(results.as_ref());
     }
-    Ok(recorded)
+    let end = script::end(script.call_count(), &recorded);
+    Ok(recorded + &end)
 }
 
-/// A record's line that differs, and how.
-type Differs = (usize, String);
-
-/// Runs a record's calls; the first line that differs.
+/// Runs the calls of a record that is as it was written; the first line that differs.
 fn check(
     trial: &mut Trial,
     source: &Source,
     script: &Script,
-    name: &str,
+    text: &Source,
 ) -> Result<Option<Differs>, Stop> {
-    let no_record = |what: &str| Stop::Cannot(format!("{name}{what}"));
+    let no_record = |what: &str| Stop::Cannot(format!("{}{what}", text.name));
     let Some((number, recorded)) = script.module else {
         return Err(no_record(": not a record: it names no module"));
     };
+    if let Some(differs) = script.changed(&text.bytes) {
+        return Ok(Some(differs));
+    }
     let own = script::module_sum(&source.bytes);
     if own != recorded {
         return Ok(Some((number, format!("module {own}, recorded {recorded}"))));
@@ -162,7 +164,7 @@ fn check(
             return Ok(Some((number, format!("{call}: {what}"))));
         }
     }
-    Ok(None)
+    Ok(script.endless())
 }
 
 /// Tells whether a record came again, and gives it.
@@ -172,7 +174,7 @@ fn checked(
     script: &Script,
     differs: Option<Differs>,
 ) -> Result<bool, Stop> {
-    let (calls, ticks) = (script.calls().count() as u64, ticks(script));
+    let (calls, ticks) = (script.call_count(), ticks(script));
     let again = differs.is_none();
     let text = match differs {
         differs if words.json => {

@@ -1,6 +1,7 @@
 //! Trial scripts, and records of what came of them (docs/FORMATS.md).
 use super::checksum::Checksum;
 use super::input::quoted;
+use super::output::counted;
 use super::stop::Stop;
 use lampthistle::Answer;
 use std::ffi::OsStr;
@@ -67,10 +68,25 @@ pub struct Line<'a> {
 /// The line and the checksum of a record's module.
 pub type Module = (usize, Checksum);
 
-/// A script. Of a record's header only the module is looked at.
+/// A record's line that differs, and how.
+pub type Differs = (usize, String);
+
+/// A record's last line: how many calls stand before it, and the checksum of all bytes before it.
+struct End {
+    number: usize,
+    calls: u64,
+    sum: Checksum,
+}
+
+/// A script. Of a record's header only version and module are looked at.
+#[derive(Default)]
 pub struct Script<'a> {
+    version: Option<&'static str>,
     pub module: Option<Module>,
     pub lines: Vec<Line<'a>>,
+    end: Option<End>,
+    /// How many lines the text has.
+    length: usize,
 }
 
 impl Script<'_> {
@@ -78,57 +94,121 @@ impl Script<'_> {
         let calls = self.lines.iter().filter_map(|line| line.call.as_ref());
         calls.map(|(call, _)| call)
     }
+
+    pub fn call_count(&self) -> u64 {
+        self.calls().count() as u64
+    }
+
+    /// How a record of these bytes differs from what its end says.
+    pub fn changed(&self, bytes: &[u8]) -> Option<Differs> {
+        let end = self.end.as_ref()?;
+        let calls = self.call_count();
+        let sum = Checksum::of(before(bytes, end.number));
+        let what = if calls != end.calls {
+            format!("calls {calls}, recorded {}", end.calls)
+        } else if sum != end.sum {
+            format!("checksum {sum}, recorded {}", end.sum)
+        } else {
+            return None;
+        };
+        let what = format!("end: {what}; the record is not as it was written");
+        Some((end.number, what))
+    }
+
+    /// What is known of a record without an end whose calls came again.
+    pub fn endless(&self) -> Option<Differs> {
+        if self.end.is_some() {
+            return None;
+        }
+        let again = format!("its {} came again", counted(self.call_count(), "call"));
+        let what = match self.version {
+            Some(VERSION) => format!("the record is cut; {again}"),
+            _ => format!(
+                "a record of version 1 does not say how many calls it had; {again}, and whether more followed cannot be known"
+            ),
+        };
+        Some((self.length + 1, format!("no end: {what}")))
+    }
+}
+
+/// The bytes before a line, which counts from 1.
+fn before(bytes: &[u8], line: usize) -> &[u8] {
+    let from = bytes.splitn(line, |&byte| byte == b'\n').last();
+    &bytes[..bytes.len() - from.map_or(0, <[u8]>::len)]
 }
 
 /// The first words of a record's header, in their order.
 const HEADER: [&str; 3] = ["record", "program", "module"];
-const VERSION: &str = "1";
+/// The version that is written, and the first one, whose records have no end.
+const VERSION: &str = "2";
+const ENDLESS: &str = "1";
 /// A mark that some editors write at the beginning of a text.
 const UTF8_MARK: char = '\u{FEFF}';
 
 /// What a line says before its comment.
 enum Said {
     Nothing,
-    /// A line of a record's header; the module's line has a checksum.
-    Header(Option<Checksum>),
+    Version(&'static str),
+    Program,
+    Module(Checksum),
     Call(Call, Option<Results>),
+    End(u64, Checksum),
 }
 
 /// Reads a whole script, so that a bad line is found before anything is played.
 pub fn parse<'a>(name: &str, text: &'a str) -> Result<Script<'a>, Stop> {
     let text = text.strip_prefix(UTF8_MARK).unwrap_or(text);
-    let (mut module, mut lines) = (None, Vec::new());
+    let mut script = Script::default();
     let mut header = &HEADER[..];
-    for (k, line) in text.lines().enumerate() {
-        let number = k + 1;
-        let (said, comment) = line.split_at(line.find('#').unwrap_or(line.len()));
-        let read = read_line(said, &mut header);
-        let read = read.ok_or_else(|| bad_line(name, number, said.trim()))?;
-        let call = match read {
-            Said::Call(call, results) => Some((call, results)),
-            Said::Nothing => None,
-            Said::Header(sum) => {
-                module = module.or(sum.map(|sum| (number, sum)));
-                if comment.is_empty() {
-                    continue;
-                }
-                None
-            }
+    for line in text.lines() {
+        script.length += 1;
+        let wrong = |what, said: &str| {
+            let (number, said) = (script.length, quoted(OsStr::new(said.trim())));
+            Stop::Cannot(format!("{name}:{number}: {what}: {said}"))
         };
-        lines.push(Line {
-            number,
-            call,
-            comment: comment.trim_end(),
-        });
+        if script.end.is_none() {
+            let (said, comment) = line.split_at(line.find('#').unwrap_or(line.len()));
+            let read = read_line(said, &mut header).ok_or_else(|| wrong(NO_LINE, said))?;
+            match read {
+                Said::End(..) if script.version != Some(VERSION) => {
+                    return Err(wrong(NO_END, said))
+                }
+                Said::End(..) if !comment.is_empty() => return Err(wrong(AFTER_END, comment)),
+                _ => script.add(read, comment.trim_end()),
+            }
+        } else if !line.trim().is_empty() {
+            return Err(wrong(AFTER_END, line));
+        }
     }
-    Ok(Script { module, lines })
+    Ok(script)
 }
 
-fn bad_line(name: &str, number: usize, said: &str) -> Stop {
-    let said = quoted(OsStr::new(said));
-    Stop::Cannot(format!(
-        "{name}:{number}: not play N, touch PAGE MADE POSITION, burst PAGE MADE POSITION .., page or why, nor a record's header: {said}"
-    ))
+const NO_LINE: &str = "not play N, touch PAGE MADE POSITION, burst PAGE MADE POSITION .., page or why, nor a record's header or end";
+const NO_END: &str = "an end, but not of a record of version 2";
+/// Nothing stands there: the end does not count it.
+const AFTER_END: &str = "after the record's end";
+
+impl<'a> Script<'a> {
+    /// Takes what the last line says.
+    fn add(&mut self, said: Said, comment: &'a str) {
+        let number = self.length;
+        let mut call = None;
+        let is_kept = matches!(said, Said::Nothing | Said::Call(..)) || !comment.is_empty();
+        match said {
+            Said::Nothing | Said::Program => {}
+            Said::Version(version) => self.version = Some(version),
+            Said::Module(sum) => self.module = Some((number, sum)),
+            Said::Call(own, results) => call = Some((own, results)),
+            Said::End(calls, sum) => self.end = Some(End { number, calls, sum }),
+        }
+        if is_kept {
+            self.lines.push(Line {
+                number,
+                call,
+                comment,
+            });
+        }
+    }
 }
 
 /// Reads a line; `header` is what is still to come of a record's header, of which nothing may come after the first call.
@@ -139,15 +219,24 @@ fn read_line(said: &str, header: &mut &[&str]) -> Option<Said> {
     };
     if header.first() != Some(&first) {
         *header = &[];
-        return read_call(said);
+        return match first {
+            "end" => read_end(words),
+            _ => read_call(said),
+        };
     }
     *header = &header[1..];
     match (first, words.next(), words.next()) {
-        ("record", Some(VERSION), None) => Some(Said::Header(None)),
-        ("program", _, _) => Some(Said::Header(None)),
-        ("module", Some(sum), None) => Some(Said::Header(Some(Checksum::read(sum)?))),
+        ("record", Some(VERSION), None) => Some(Said::Version(VERSION)),
+        ("record", Some(ENDLESS), None) => Some(Said::Version(ENDLESS)),
+        ("program", _, _) => Some(Said::Program),
+        ("module", Some(sum), None) => Checksum::read(sum).map(Said::Module),
         _ => None,
     }
+}
+
+fn read_end<'a>(mut words: impl Iterator<Item = &'a str>) -> Option<Said> {
+    let (calls, sum) = (number(words.next()?)?, Checksum::read(words.next()?)?);
+    words.next().is_none().then_some(Said::End(calls, sum))
 }
 
 fn read_call(said: &str) -> Option<Said> {
@@ -212,6 +301,11 @@ pub fn module_sum(file: &[u8]) -> Checksum {
 pub fn header(file: &[u8]) -> String {
     let (program, sum) = (env!("CARGO_PKG_VERSION"), module_sum(file));
     format!("record {VERSION}\nprogram lampthistle {program}\nmodule {sum}\n")
+}
+
+/// The end of a record that stands before it, with so many calls.
+pub fn end(calls: u64, record: &str) -> String {
+    format!("end {calls} {}\n", Checksum::of(record.as_bytes()))
 }
 
 impl Line<'_> {

@@ -103,6 +103,22 @@ pub fn frames(ticks: usize) -> usize {
     120_000 * ticks / 255
 }
 
+/// The bytes' checksum by docs/FORMATS.md.
+pub fn checksum(bytes: &[u8]) -> String {
+    let step = |h: u64, &b: &u8| (h ^ u64::from(b)).wrapping_mul(0x100000001b3);
+    format!("{:016x}", bytes.iter().fold(0xcbf29ce484222325, step))
+}
+
+/// A record whose end is made anew, for what stands before it.
+pub fn ended(record: &str) -> String {
+    let end = record.trim_end().rfind('\n').expect("lines before its end") + 1;
+    let before = &record[..end];
+    let names = ["play", "touch", "burst", "page", "why"];
+    let is_call = |line: &&str| names.iter().any(|name| line.starts_with(name));
+    let calls = before.lines().filter(is_call).count();
+    format!("{before}end {calls} {}\n", checksum(before.as_bytes()))
+}
+
 /// A file's name in the tests' own folder.
 pub fn own(name: &str) -> PathBuf {
     Path::new(env!("CARGO_TARGET_TMPDIR")).join(name)

@@ -1,5 +1,5 @@
 //! The objects of --json.
-use crate::common::{own, quiet, stored, told};
+use crate::common::{ended, own, quiet, stored, told};
 
 /// Runs with --json and gives the status and the lines.
 fn lines(words: &[&str]) -> (i32, Vec<String>) {
@@ -99,7 +99,7 @@ fn replay_prints_an_object_a_call() {
     );
     assert_eq!((status, lines), (0, vec![line]));
     let text = std::fs::read_to_string(record).unwrap();
-    std::fs::write(record, text.replace("= 16 0", "= 17 0")).unwrap();
+    std::fs::write(record, ended(&text.replace("= 16 0", "= 17 0"))).unwrap();
     let (status, lines) = self::lines(&["replay", &name, record, "--check"]);
     let end = r#""line":5,"difference":"touch 1 5 0: number 16, recorded 17"}"#;
     assert!(status == 1 && lines[0].ends_with(end), "{}", lines[0]);

@@ -1,17 +1,11 @@
 //! Trials: scripts, and records that are checked.
-use crate::common::{own, stored, told};
+use crate::common::{checksum, ended, own, stored, told};
 
 /// A file of this text in the tests' own folder.
 fn text(name: &str, text: &str) -> String {
     let path = own(name);
     std::fs::write(&path, text).unwrap();
     path.to_str().unwrap().into()
-}
-
-/// The bytes' checksum by docs/FORMATS.md.
-fn checksum(bytes: &[u8]) -> String {
-    let step = |h: u64, &b: &u8| (h ^ u64::from(b)).wrapping_mul(0x100000001b3);
-    format!("{:016x}", bytes.iter().fold(0xcbf29ce484222325, step))
 }
 
 #[test]
@@ -109,7 +103,7 @@ fn a_record_holds_what_came_of_each_call() {
     assert_eq!(
         lines[..2],
         [
-            "record 1",
+            "record 2",
             concat!("program lampthistle ", env!("CARGO_PKG_VERSION"))
         ]
     );
@@ -124,7 +118,8 @@ fn a_record_holds_what_came_of_each_call() {
     assert_eq!(lines[6], format!("touch 0 3 1 = 0 0 0 5 {five}"));
     assert_eq!(lines[7], format!("page = 0 0 0 5 {five}"));
     assert_eq!(lines[8], format!("touch 0 5 1 = 16 0 0 5 {five}"));
-    assert!(lines[9].starts_with("play 2 = 0 0 2 7 ") && lines.len() == 10);
+    assert!(lines[9].starts_with("play 2 = 0 0 2 7 ") && lines.len() == 11);
+    assert_eq!(record, ended(&record));
 }
 
 #[test]
@@ -159,7 +154,7 @@ fn a_record_that_differs_says_where_and_how() {
             &format!(":5: play 5: sound {sum}, recorded {zeros}"),
         ),
     ] {
-        let other = text("other.record", &written.replacen(from, to, 1));
+        let other = text("other.record", &ended(&written.replacen(from, to, 1)));
         let (status, out, err) = told(&["replay", &stored("flow"), &other, "--check"]);
         assert_eq!((status, out.as_str()), (1, ""));
         assert!(err.ends_with(&format!("other.record{line}\n")), "{err}");
@@ -237,7 +232,7 @@ fn recorded_bursts_come_again() {
         "{line}"
     );
     let check = |record: &str| {
-        let record = text("bursts.record", record);
+        let record = text("bursts.record", &ended(record));
         told(&["replay", &stored("flow"), &record, "--check"])
     };
     assert_eq!(check(&written).0, 0);
@@ -272,7 +267,7 @@ fn recorded_causes_come_again() {
     let check = |record: &str| told(&["replay", &stored("flow"), record, "--check"]);
     assert_eq!(check(&record).0, 0);
     let other = written.replacen("4 1 1 1 1", "4 1 1 5 1", 1);
-    let (status, _, err) = check(&text("causes.record", &other));
+    let (status, _, err) = check(&text("causes.record", &ended(&other)));
     assert_eq!(status, 1);
     assert!(
         err.ends_with(":4: why: channel 3: cause 1, recorded 5\n"),
@@ -294,20 +289,108 @@ fn what_is_no_record_is_not_checked() {
     let module = &stored("flow");
     for (lines, reason) in [
         (SCRIPT, "not a record: it names no module"),
-        ("record 2\n", ":1: not "),
-        ("play 1\nrecord 1\n", ":2: not "),
-        ("record 1\nprogram x\nmodule 12\n", ":3: not "),
+        ("record 3\n", ":1: not "),
+        ("play 1\nrecord 2\n", ":2: not "),
+        ("record 2\nprogram x\nmodule 12\n", ":3: not "),
     ] {
         let (status, out, err) = told(&["replay", module, &text("no.record", lines), "--check"]);
         assert_eq!((status, out.as_str()), (2, ""), "{lines}");
         assert!(err.contains(reason), "{err}");
     }
-    let (_, written) = recorded("cut.record");
-    let cut = text("cut.record", &(written + "play 3\n"));
-    let (status, _, err) = told(&["replay", module, &cut, "--check"]);
+    let (_, written) = recorded("bare.record");
+    let bare = ended(&written.replacen("end ", "play 3\nend ", 1));
+    let bare = text("bare.record", &bare);
+    let (status, _, err) = told(&["replay", module, &bare, "--check"]);
     assert_eq!(status, 2);
     assert!(
-        err.contains("cut.record:11: play 3: has no results"),
+        err.contains("bare.record:11: play 3: has no results"),
         "{err}"
     );
+}
+
+/// Checks a record of this text: the status, and what is said where it does not hold.
+fn checked(name: &str, record: &str) -> (i32, String) {
+    let record = text(name, record);
+    let (status, out, err) = told(&["replay", &stored("flow"), &record, "--check"]);
+    assert!((status == 0) == err.is_empty() && (status == 0 || out.is_empty()));
+    (status, err)
+}
+
+#[test]
+fn a_cut_record_does_not_hold() {
+    let (_, written) = recorded("whole_once.record");
+    // Without the newline after its end a record still has all that was written.
+    for end in 0..written.len() - 1 {
+        let (status, err) = checked("cut.record", &written[..end]);
+        assert!(status != 0 && err.contains("cut.record:"), "{end}: {err}");
+    }
+    assert_eq!(checked("cut.record", &written[..written.len() - 1]).0, 0);
+    let end = written.rfind("end ").unwrap();
+    let (status, err) = checked("cut.record", &written[..end]);
+    assert_eq!(status, 1);
+    let said = "cut.record:11: no end: the record is cut; its 5 calls came again\n";
+    assert!(err.ends_with(said), "{err}");
+    // As a script it runs, as any does.
+    let cut = own("cut.record");
+    assert_eq!(
+        told(&["replay", &stored("flow"), cut.to_str().unwrap()]).0,
+        0
+    );
+}
+
+#[test]
+fn a_changed_record_does_not_hold() {
+    let (_, written) = recorded("unchanged.record");
+    let page = written.lines().nth(7).unwrap();
+    for (from, to, said) in [
+        (page, "", ":11: end: calls 4, recorded 5; "),
+        ("# begins", "# ends", ":11: end: checksum "),
+        ("16 0 0 5", "17 0 0 5", ":11: end: checksum "),
+        ("end 5", "end 6", ":11: end: calls 5, recorded 6; "),
+    ] {
+        let (status, err) = checked("changed.record", &written.replacen(from, to, 1));
+        assert_eq!(status, 1, "{to}");
+        let why = "; the record is not as it was written\n";
+        assert!(err.contains(said) && err.ends_with(why), "{err}");
+    }
+    for more in ["play 3\n", "# a remark\n"] {
+        let (status, err) = checked("longer.record", &(written.clone() + "\n" + more));
+        assert_eq!(status, 2);
+        let said = format!("longer.record:13: after the record's end: {more}");
+        assert!(err.ends_with(&said), "{err}");
+    }
+    assert_eq!(checked("longer.record", &(written.clone() + "\n \n")).0, 0);
+    let remark = written.trim_end().to_string() + " # a remark\n";
+    let (status, err) = checked("longer.record", &remark);
+    assert_eq!(status, 2);
+    let said = "longer.record:11: after the record's end: # a remark\n";
+    assert!(err.ends_with(said), "{err}");
+}
+
+#[test]
+fn a_record_of_version_1_says_what_is_not_known() {
+    let (_, written) = recorded("second.record");
+    let first = written.replacen("record 2", "record 1", 1);
+    let (old, end) = first.split_at(first.rfind("end ").unwrap());
+    let (status, err) = checked("first.record", old);
+    assert_eq!(status, 1);
+    let said = "first.record:11: no end: a record of version 1 does not say how many calls it had; its 5 calls came again, and whether \
+        more followed cannot be known\n";
+    assert!(err.ends_with(said), "{err}");
+    // A line that differs is told as before.
+    let (status, err) = checked("first.record", &old.replacen("16 0 0 5", "17 0 0 5", 1));
+    assert!(status == 1 && err.contains(":9: touch 0 5 1: number 16, recorded 17"));
+    // It has no end, and recorded again it gets one.
+    let (status, err) = checked("first.record", &format!("{old}{end}"));
+    let said = format!(":11: an end, but not of a record of version 2: {end}");
+    assert!(status == 2 && err.ends_with(&said), "{err}");
+    let words = [
+        "replay",
+        &stored("flow"),
+        &text("first.record", old),
+        "--record",
+        "-",
+    ];
+    let (status, out, _) = told(&words);
+    assert_eq!((status, out), (0, written));
 }
