@@ -8,10 +8,12 @@ use super::script::{self, Call, Differs, Results, Script};
 use super::song::TICK_FRAMES;
 use super::sound::{self, check_room, Sound};
 use super::stop::Stop;
+use super::target;
 use super::trial::Trial;
 use super::words::Words;
 use super::{why, Command};
 use lampthistle::{Answer, Cause, State};
+use std::ffi::OsStr;
 
 pub const COMMAND: Command = Command {
     name: "replay",
@@ -28,7 +30,7 @@ Runs a trial again, from a fresh state. A line of SCRIPT is one call:
   page                       a page change
   why                        why each channel is quiet, as why says it
 # begins a comment. Prints each call's answer, and the clock, page and place after it; the frames go to OUT, as in play. A refused touch
-changes nothing, and the trial goes on: a trial that ran ends with 0.
+changes nothing, and the trial goes on: a trial that ran ends with 0. OUT, RECORD and the files that are read must not be one file.
 --record writes the script again to RECORD, with the module's checksum, and for each call its answer, the clock and a checksum of the
 frames so far; its last line says how many calls it has, with a checksum of the record (docs/FORMATS.md). A record is a script, too.
 --check plays a record, and says that every answer and checksum came again, or which line differs first and how. A record that was cut or
@@ -49,19 +51,14 @@ that cannot be read or written.
 
 fn run(words: &Words) -> Result<bool, Stop> {
     let (out, record) = (words.value("--out"), words.value("--record"));
-    out.map(sound::format).transpose()?;
-    let wrong = match record {
-        Some(_) if words.has("--check") => Some("--check and --record exclude each other"),
-        Some(name) if name == "-" && out == record => Some("--out and --record are both -"),
-        _ => None,
-    };
-    if let Some(what) = wrong {
-        return Err(Stop::Usage(what.into()));
-    }
+    check_outputs(words, out, record)?;
     let [source, text] = input::read_all(words.files(["FILE", "SCRIPT"])?)?;
     let lines = String::from_utf8_lossy(&text.bytes);
     let script = script::parse(&text.name, &lines)?;
     let _ = source.judge()?;
+    if let Some(name) = record {
+        target::check_unread(name, &[&source, &text])?;
+    }
     let sound = match out {
         Some(name) => {
             check_room(name, Kind::Whole, most(&script), |room| {
@@ -85,6 +82,20 @@ fn run(words: &Words) -> Result<bool, Stop> {
         write_bytes(name, &[&source, &text], recorded.as_bytes())?;
     }
     Ok(true)
+}
+
+/// Stops where the outputs cannot be what is asked for, before anything is read.
+fn check_outputs(words: &Words, out: Option<&OsStr>, record: Option<&OsStr>) -> Result<(), Stop> {
+    out.map(sound::format).transpose()?;
+    let wrong = match (out, record) {
+        (_, Some(_)) if words.has("--check") => "--check and --record exclude each other",
+        (Some(out), Some(record)) if out == record && out == "-" => "--out and --record are both -",
+        (Some(out), Some(record)) if target::are_one(out, record) => {
+            "--out and --record are one file"
+        }
+        _ => return Ok(()),
+    };
+    Err(Stop::Usage(wrong.into()))
 }
 
 /// The frames at most of all calls.

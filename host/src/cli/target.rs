@@ -3,9 +3,10 @@
 use super::input::{identity, shown, Source};
 use super::stop::Stop;
 use std::ffi::OsStr;
-use std::fs::{self, File};
+use std::fs::{self, File, Metadata};
 use std::io::{self, Seek, SeekFrom, Write};
 use std::os::fd::AsFd;
+use std::os::unix::fs::{FileTypeExt, MetadataExt};
 use std::path::{Path, PathBuf};
 
 pub struct Target {
@@ -30,22 +31,18 @@ impl Target {
             name: shown(name),
             part,
         };
+        check_unread(name, sources)?;
         if name == "-" {
-            let out = io::stdout().as_fd().try_clone_to_owned();
-            return Ok(of(out.map_err(told)?.into(), None));
+            return Ok(of(standard_output().map_err(told)?, None));
         }
         // Looked at by name: opening a pipe waits for its other end, and opening a device may do more.
         let about = match fs::metadata(name) {
             Err(e) if e.kind() == io::ErrorKind::NotFound => {
-                let (file, part) = beside(Path::new(name).into()).map_err(told)?;
+                let (file, part) = beside(past_links(name)).map_err(told)?;
                 return Ok(of(file, Some(part)));
             }
             about => about.map_err(told)?,
         };
-        let there = identity(&about);
-        if there.is_some() && sources.iter().any(|source| source.identity == there) {
-            return Err(Stop::Cannot(format!("{}: is read, too", shown(name))));
-        }
         let file = File::options().write(true).open(name).map_err(told)?;
         if !about.is_file() {
             return Ok(of(file, None));
@@ -72,6 +69,68 @@ impl Target {
             Stop::Io(self.name.clone(), e)
         })
     }
+}
+
+fn standard_output() -> io::Result<File> {
+    let out = io::stdout().as_fd().try_clone_to_owned();
+    out.map(File::from)
+}
+
+/// Stops where a file that is to be written is one of those that were read.
+pub fn check_unread(name: &OsStr, sources: &[&Source]) -> Result<(), Stop> {
+    let there = about(name).ok().and_then(|about| identity(&about));
+    if there.is_some() && sources.iter().any(|source| source.identity == there) {
+        return Err(Stop::Cannot(format!("{}: is read, too", shown(name))));
+    }
+    Ok(())
+}
+
+/// What an output's name finds.
+fn about(name: &OsStr) -> io::Result<Metadata> {
+    match name.to_str() {
+        Some("-") => standard_output()?.metadata(),
+        _ => fs::metadata(name),
+    }
+}
+
+/// Where a name leads that finds no file: past the links, which stay.
+fn past_links(name: &OsStr) -> PathBuf {
+    /// As many as the system follows.
+    const MOST: usize = 40;
+    let mut path = PathBuf::from(name);
+    for _ in 0..MOST {
+        match fs::read_link(&path) {
+            Ok(next) => path = path.with_file_name(next),
+            Err(_) => break,
+        }
+    }
+    path
+}
+
+/// Where an output goes: to what is there, by device and number, or to a new path.
+#[derive(PartialEq)]
+enum Place {
+    There(u64, u64),
+    New(PathBuf),
+}
+
+/// Where an output of this name goes. None for a device, which may take two, and where it cannot be known.
+fn place(name: &OsStr) -> Option<Place> {
+    match about(name) {
+        Ok(about) if about.file_type().is_char_device() => None,
+        Ok(about) => Some(Place::There(about.dev(), about.ino())),
+        Err(_) => {
+            let path = Path::new(".").join(past_links(name));
+            let folder = fs::canonicalize(path.parent()?).ok()?;
+            Some(Place::New(folder.join(path.file_name()?)))
+        }
+    }
+}
+
+/// Whether two outputs go to one file or pipe.
+pub fn are_one(first: &OsStr, second: &OsStr) -> bool {
+    let place_of = place(first);
+    first == second || place_of.is_some() && place_of == place(second)
 }
 
 /// A new file beside the one with this name: NAME.0.part, or the next number that is free.
