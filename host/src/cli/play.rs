@@ -21,7 +21,7 @@ lampthistle play FILE [--once | --ticks N | --seconds S] [--float [--mono]] --ou
 Renders the module from its beginning: 48,000 frames a second, two channels. OUT ends in .wav, or in .raw for bare 16-bit numbers, low
 byte first; - writes bare numbers to standard output. --once plays until the song comes back to a place where it has been, as info
 tells; --ticks N plays N ticks; --seconds S the whole ticks that fit into S seconds; without them it plays 60 seconds. A song that ends
-goes on from its beginning. OUT gets its name when it is whole; until then it is OUT.0.part.
+goes on from its beginning. OUT gets its name when it is whole; until then it is OUT.0.part, which the next run takes away if it is left.
 --float writes 32-bit floats instead, left / 32,768 and right / 32,768, each exact; with --mono one number a frame, the sum of both /
 65,536.
 --plain prints NUMBER PLACE COUNT, the count in ticks.

@@ -3,9 +3,10 @@
 use super::input::{identity, shown, Source};
 use super::stop::Stop;
 use std::ffi::OsStr;
-use std::fs::{self, File, Metadata};
+use std::fs::{self, File, Metadata, TryLockError};
 use std::io::{self, Seek, SeekFrom, Write};
 use std::os::fd::AsFd;
+use std::os::unix::ffi::OsStrExt;
 use std::os::unix::fs::{FileTypeExt, MetadataExt};
 use std::path::{Path, PathBuf};
 
@@ -38,7 +39,7 @@ impl Target {
         // Looked at by name: opening a pipe waits for its other end, and opening a device may do more.
         let about = match fs::metadata(name) {
             Err(e) if e.kind() == io::ErrorKind::NotFound => {
-                let (file, part) = beside(past_links(name)).map_err(told)?;
+                let (file, part) = beside(past_links(name), sources).map_err(told)?;
                 return Ok(of(file, Some(part)));
             }
             about => about.map_err(told)?,
@@ -48,7 +49,8 @@ impl Target {
             return Ok(of(file, None));
         }
         // A link stays one: the file that it names is replaced.
-        let (file, part) = fs::canonicalize(name).and_then(beside).map_err(told)?;
+        let finished = fs::canonicalize(name).map_err(told)?;
+        let (file, part) = beside(finished, sources).map_err(told)?;
         let target = of(file, Some(part));
         let same = target.file.set_permissions(about.permissions());
         same.map(|()| target).map_err(told)
@@ -133,8 +135,11 @@ pub fn are_one(first: &OsStr, second: &OsStr) -> bool {
     first == second || place_of.is_some() && place_of == place(second)
 }
 
-/// A new file beside the one with this name: NAME.0.part, or the next number that is free.
-fn beside(finished: PathBuf) -> io::Result<(File, Part)> {
+/// A new file beside the one with this name: NAME.0.part, or the next number that is free. It is locked as long as it is written.
+fn beside(finished: PathBuf, sources: &[&Source]) -> io::Result<(File, Part)> {
+    for part in parts(&finished) {
+        take_away(&part, sources);
+    }
     let own = finished.file_name().unwrap_or_default();
     for k in 0.. {
         let mut name = own.to_os_string();
@@ -142,10 +147,57 @@ fn beside(finished: PathBuf) -> io::Result<(File, Part)> {
         let beside = finished.with_file_name(name);
         match File::create_new(&beside) {
             Err(e) if e.kind() == io::ErrorKind::AlreadyExists => continue,
+            // Another run looks whether it was left over, and takes it away.
+            Ok(file) if is_locked(file.try_lock()) || !is_at(&file, &beside) => continue,
             file => return Ok((file?, Part { beside, finished })),
         }
     }
     Err(io::ErrorKind::AlreadyExists.into())
+}
+
+/// The unfinished files beside one of this name, by any number.
+fn parts(finished: &Path) -> Vec<PathBuf> {
+    let own = finished.file_name().unwrap_or_default().as_bytes();
+    let is_part = |name: &[u8]| {
+        let number = name
+            .strip_prefix(own)
+            .and_then(|rest| rest.strip_prefix(b"."));
+        let number = number.and_then(|rest| rest.strip_suffix(b".part"));
+        number.is_some_and(|k| !k.is_empty() && k.iter().all(u8::is_ascii_digit))
+    };
+    // A folder that cannot be listed shows none.
+    let here = Path::new(".").join(finished);
+    let entries = here.parent().and_then(|folder| fs::read_dir(folder).ok());
+    let entries = entries.into_iter().flatten().flatten();
+    let parts = entries.filter(|entry| is_part(entry.file_name().as_bytes()));
+    parts.map(|entry| entry.path()).collect()
+}
+
+/// Takes away a part that an interrupted run left: a file that no run has locked and none has read. What cannot be known is left.
+fn take_away(part: &Path, sources: &[&Source]) {
+    let there = fs::symlink_metadata(part).ok();
+    let there = there.and_then(|about| identity(&about));
+    if there.is_none() || sources.iter().any(|source| source.identity == there) {
+        return;
+    }
+    let file = File::options().write(true).open(part);
+    if let Ok(file) = file.and_then(|file| Ok(file.try_lock().map(|()| file)?)) {
+        if is_at(&file, part) {
+            let _ = fs::remove_file(part);
+        }
+    }
+}
+
+/// Whether another run has the lock. A system that knows no locks says something else.
+fn is_locked(tried: Result<(), TryLockError>) -> bool {
+    matches!(tried, Err(TryLockError::WouldBlock))
+}
+
+/// Whether a file still has this name.
+fn is_at(file: &File, name: &Path) -> bool {
+    let about = [file.metadata(), fs::symlink_metadata(name)];
+    let [own, there] = about.map(|about| about.ok().and_then(|about| identity(&about)));
+    own.is_some() && own == there
 }
 
 impl Write for Target {

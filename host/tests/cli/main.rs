@@ -5,6 +5,7 @@ mod common;
 mod compares;
 mod finetunes;
 mod floats;
+mod leftovers;
 mod objects;
 mod outputs;
 mod recordings;
