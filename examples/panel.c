@@ -81,6 +81,14 @@ static void begin_record(panel *p) {
     note(p, "record 2\nprogram panel %s\nmodule %016" PRIx64 "\n", LAMPTHISTLE_VERSION_TEXT, sum);
 }
 
+/* The state from which the record begins. */
+static void write_state(panel *p) {
+    size_t k;
+    note(p, "state");
+    for (k = 0; k < LAMPTHISTLE_STATE_CELLS; k++) note(p, " %" PRIu32, p->state.cell[k]);
+    note(p, "\n");
+}
+
 /* The last line, without which a record counts as cut. */
 static void end_record(panel *p) {
     fprintf(p->record, "end %" PRIu32 " %016" PRIx64 "\n", p->calls, p->record_sum);
@@ -218,9 +226,10 @@ static int run(panel *p, char **word) {
     if (!p->out) return cannot(word[2]);
     p->record = fopen(word[3], "w");
     if (!p->record) return cannot(word[3]);
-    begin_record(p);
     lampthistle_fresh(p->state.cell);
     p->state.cell[LAMPTHISTLE_CLOCK] = FIRST_CLOCK;
+    begin_record(p);
+    write_state(p);
     return play_blocks(p, word);
 }
 

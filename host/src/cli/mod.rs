@@ -22,6 +22,7 @@ mod report;
 mod script;
 mod song;
 mod sound;
+mod state;
 mod stop;
 mod stream;
 mod target;

@@ -7,6 +7,7 @@ use super::report::{self, plain_accepted};
 use super::script::{self, Call, Differs, Results, Script};
 use super::song::TICK_FRAMES;
 use super::sound::{self, check_room, Sound};
+use super::state;
 use super::stop::Stop;
 use super::target;
 use super::trial::Trial;
@@ -17,12 +18,13 @@ use std::ffi::OsStr;
 
 pub const COMMAND: Command = Command {
     name: "replay",
-    options: &["--out", "--record"],
+    options: &["--out", "--record", "--from", "--save"],
     flags: &["--check", "--json"],
     help: "\
-lampthistle replay FILE SCRIPT [--out OUT] [--record RECORD | --check] [--plain | --json]
+lampthistle replay FILE SCRIPT [--from STATE] [--out OUT] [--record RECORD] [--save STATE] [--plain | --json]
+lampthistle replay FILE RECORD --check [--out OUT] [--plain | --json]
 
-Runs a trial again, from a fresh state. A line of SCRIPT is one call:
+Runs a trial again, from a fresh state, a record from the state that it names. A line of SCRIPT is one call:
   play N                     plays N ticks
   touch PAGE MADE POSITION   a touch made on PAGE at clock MADE for a song position
   burst PAGE MADE POSITION [PAGE MADE POSITION ..]
@@ -30,7 +32,9 @@ Runs a trial again, from a fresh state. A line of SCRIPT is one call:
   page                       a page change
   why                        why each channel is quiet, as why says it
 # begins a comment. Prints each call's answer, and the clock, page and place after it; the frames go to OUT, as in play. A refused touch
-changes nothing, and the trial goes on: a trial that ran ends with 0. OUT, RECORD and the files that are read must not be one file.
+changes nothing, and the trial goes on: a trial that ran ends with 0.
+--from begins from the state that a file holds, --save writes the one after the last call: a line of text (docs/FORMATS.md). No output may
+be another output or a file that is read.
 --record writes the script again to RECORD, with the module's checksum, and for each call its answer, the clock and a checksum of the
 frames so far; its last line says how many calls it has, with a checksum of the record (docs/FORMATS.md). A record is a script, too.
 --check plays a record, and says that every answer and checksum came again, or which line differs first and how. A record that was cut or
@@ -49,53 +53,91 @@ that cannot be read or written.
     run,
 };
 
+/// Where results go.
+const OUTPUTS: [&str; 3] = ["--out", "--record", "--save"];
+
 fn run(words: &Words) -> Result<bool, Stop> {
-    let (out, record) = (words.value("--out"), words.value("--record"));
-    check_outputs(words, out, record)?;
-    let [source, text] = input::read_all(words.files(["FILE", "SCRIPT"])?)?;
+    check_outputs(words)?;
+    let (source, text, from) = read(words)?;
     let lines = String::from_utf8_lossy(&text.bytes);
     let script = script::parse(&text.name, &lines)?;
     let _ = source.judge()?;
-    if let Some(name) = record {
-        target::check_unread(name, &[&source, &text])?;
+    let mut sources = vec![&source, &text];
+    sources.extend(&from);
+    for name in OUTPUTS.into_iter().filter_map(|option| words.value(option)) {
+        target::check_unread(name, &sources)?;
     }
-    let sound = match out {
-        Some(name) => {
-            check_room(name, Kind::Whole, most(&script), |room| {
-                frames_of(&source, &script, room)
-            })?;
-            Some(Sound::create(name, Kind::Whole, &[&source, &text])?)
-        }
-        None => None,
-    };
-    let mut trial = Trial::new(&source.bytes, sound);
     if words.has("--check") {
-        let differs = check(&mut trial, &source, &script, &text)?;
+        if let Some(differs) = other_record(&source, &script, &text)? {
+            return checked(words, &text.name, &script, Some(differs));
+        }
+    }
+    let state = from.as_ref().map_or(Ok(script.state()), state::parse)?;
+    state::check_legal(&source, from.as_ref().unwrap_or(&text), state)?;
+    let sound = words.value("--out");
+    let sound = sound.map(|name| open(name, &sources, &script, state));
+    let mut trial = Trial::new(&source.bytes, state, sound.transpose()?);
+    if words.has("--check") {
+        let differs = check(&mut trial, &script, &text)?;
         if differs.is_none() {
             trial.finish()?;
         }
         return checked(words, &text.name, &script, differs);
     }
     let recorded = replay(words, &mut trial, &source, &script)?;
+    let saved = state::line(trial.state());
     trial.finish()?;
-    if let Some(name) = record {
-        write_bytes(name, &[&source, &text], recorded.as_bytes())?;
+    for (option, text) in [("--record", recorded), ("--save", saved)] {
+        if let Some(name) = words.value(option) {
+            write_bytes(name, &sources, text.as_bytes())?;
+        }
     }
     Ok(true)
 }
 
-/// Stops where the outputs cannot be what is asked for, before anything is read.
-fn check_outputs(words: &Words, out: Option<&OsStr>, record: Option<&OsStr>) -> Result<(), Stop> {
-    out.map(sound::format).transpose()?;
-    let wrong = match (out, record) {
-        (_, Some(_)) if words.has("--check") => "--check and --record exclude each other",
-        (Some(out), Some(record)) if out == record && out == "-" => "--out and --record are both -",
-        (Some(out), Some(record)) if target::are_one(out, record) => {
-            "--out and --record are one file"
-        }
-        _ => return Ok(()),
+/// Reads the module, the script and the state from which it begins, if one is named.
+fn read(words: &Words) -> Result<(Source, Source, Option<Source>), Stop> {
+    let [file, script] = words.files(["FILE", "SCRIPT"])?;
+    let Some(from) = words.value("--from") else {
+        let [source, text] = input::read_all([file, script])?;
+        return Ok((source, text, None));
     };
-    Err(Stop::Usage(wrong.into()))
+    let [source, text, from] = input::read_all([file, script, from])?;
+    Ok((source, text, Some(from)))
+}
+
+/// Opens the sound file; the first of what was read is the module.
+fn open(name: &OsStr, sources: &[&Source], script: &Script, state: State) -> Result<Sound, Stop> {
+    check_room(name, Kind::Whole, most(script), |room| {
+        frames_of(sources[0], script, state, room)
+    })?;
+    Sound::create(name, Kind::Whole, sources)
+}
+
+/// Stops where the outputs cannot be what is asked for, before anything is read.
+fn check_outputs(words: &Words) -> Result<(), Stop> {
+    words.value("--out").map(sound::format).transpose()?;
+    let wrong = |what: String| Err(Stop::Usage(what));
+    for option in ["--record", "--from", "--save"] {
+        if words.has("--check") && words.value(option).is_some() {
+            return wrong(format!("--check and {option} exclude each other"));
+        }
+    }
+    let outputs = OUTPUTS.map(|option| (option, words.value(option)));
+    for (k, (first, one)) in outputs.into_iter().enumerate() {
+        for (second, other) in outputs.into_iter().skip(k + 1) {
+            match (one, other) {
+                (Some(one), Some(other)) if one == "-" && other == "-" => {
+                    return wrong(format!("{first} and {second} are both -"));
+                }
+                (Some(one), Some(other)) if target::are_one(one, other) => {
+                    return wrong(format!("{first} and {second} are one file"));
+                }
+                _ => {}
+            }
+        }
+    }
+    Ok(())
 }
 
 /// The frames at most of all calls.
@@ -112,8 +154,8 @@ fn ticks(script: &Script) -> u64 {
 }
 
 /// The frames of all calls, counted until they are more than `limit`.
-fn frames_of(source: &Source, script: &Script, limit: u64) -> Result<u64, Stop> {
-    let mut trial = Trial::silent(&source.bytes, limit);
+fn frames_of(source: &Source, script: &Script, state: State, limit: u64) -> Result<u64, Stop> {
+    let mut trial = Trial::silent(&source.bytes, state, limit);
     for call in script.calls() {
         trial.call(call)?;
     }
@@ -127,7 +169,7 @@ fn replay(
     source: &Source,
     script: &Script,
 ) -> Result<String, Stop> {
-    let mut recorded = script::header(&source.bytes);
+    let mut recorded = script::header(&source.bytes, trial.state());
     for line in &script.lines {
         let results = match &line.call {
             Some((call, _)) => {
@@ -144,31 +186,34 @@ fn replay(
     Ok(recorded + &end)
 }
 
-/// Runs the calls of a record that is as it was written; the first line that differs.
-fn check(
-    trial: &mut Trial,
-    source: &Source,
-    script: &Script,
-    text: &Source,
-) -> Result<Option<Differs>, Stop> {
-    let no_record = |what: &str| Stop::Cannot(format!("{}{what}", text.name));
+/// How a record is not as it was written, or of another module.
+fn other_record(source: &Source, script: &Script, text: &Source) -> Result<Option<Differs>, Stop> {
+    let not = |what: &str| Stop::Cannot(format!("{}: not a record: {what}", text.name));
     let Some((number, recorded)) = script.module else {
-        return Err(no_record(": not a record: it names no module"));
+        return Err(not("it names no module"));
     };
+    if !script.is_record() {
+        return Err(not("it names no state"));
+    }
     if let Some(differs) = script.changed(&text.bytes) {
         return Ok(Some(differs));
     }
     let own = script::module_sum(&source.bytes);
-    if own != recorded {
-        return Ok(Some((number, format!("module {own}, recorded {recorded}"))));
-    }
+    Ok((own != recorded).then(|| (number, format!("module {own}, recorded {recorded}"))))
+}
+
+/// Runs a record's calls; the first line that differs.
+fn check(trial: &mut Trial, script: &Script, text: &Source) -> Result<Option<Differs>, Stop> {
     for line in &script.lines {
         let Some((call, recorded)) = &line.call else {
             continue;
         };
         let number = line.number;
         let Some(recorded) = recorded else {
-            return Err(no_record(&format!(":{number}: {call}: has no results")));
+            let name = &text.name;
+            return Err(Stop::Cannot(format!(
+                "{name}:{number}: {call}: has no results"
+            )));
         };
         let results = trial.call(call)?;
         if let Some(what) = results.difference(call, recorded) {

@@ -2,8 +2,9 @@
 use super::checksum::Checksum;
 use super::input::quoted;
 use super::output::counted;
+use super::state;
 use super::stop::Stop;
-use lampthistle::Answer;
+use lampthistle::{Answer, State};
 use std::ffi::OsStr;
 use std::fmt;
 use std::str::FromStr;
@@ -78,11 +79,12 @@ struct End {
     sum: Checksum,
 }
 
-/// A script. Of a record's header only version and module are looked at.
+/// A script. Of a record's header version, module and state are looked at.
 #[derive(Default)]
 pub struct Script<'a> {
     version: Option<&'static str>,
     pub module: Option<Module>,
+    state: Option<Box<State>>,
     pub lines: Vec<Line<'a>>,
     end: Option<End>,
     /// How many lines the text has.
@@ -93,6 +95,19 @@ impl Script<'_> {
     pub fn calls(&self) -> impl Iterator<Item = &Call> {
         let calls = self.lines.iter().filter_map(|line| line.call.as_ref());
         calls.map(|(call, _)| call)
+    }
+
+    /// The state from which a record begins; without one it is fresh.
+    pub fn state(&self) -> State {
+        self.state
+            .as_deref()
+            .copied()
+            .unwrap_or(lampthistle::fresh())
+    }
+
+    /// Whether it has all that the header of its version has.
+    pub fn is_record(&self) -> bool {
+        self.module.is_some() && (self.state.is_some() || self.version == Some(ENDLESS))
     }
 
     pub fn call_count(&self) -> u64 {
@@ -138,8 +153,8 @@ fn before(bytes: &[u8], line: usize) -> &[u8] {
 }
 
 /// The first words of a record's header, in their order.
-const HEADER: [&str; 3] = ["record", "program", "module"];
-/// The version that is written, and the first one, whose records have no end.
+const HEADER: [&str; 4] = ["record", "program", "module", state::NAME];
+/// The version that is written, and the first one, whose records have no state and no end.
 const VERSION: &str = "2";
 const ENDLESS: &str = "1";
 /// A mark that some editors write at the beginning of a text.
@@ -151,6 +166,7 @@ enum Said {
     Version(&'static str),
     Program,
     Module(Checksum),
+    State(Box<State>),
     Call(Call, Option<Results>),
     End(u64, Checksum),
 }
@@ -198,6 +214,7 @@ impl<'a> Script<'a> {
             Said::Nothing | Said::Program => {}
             Said::Version(version) => self.version = Some(version),
             Said::Module(sum) => self.module = Some((number, sum)),
+            Said::State(state) => self.state = Some(state),
             Said::Call(own, results) => call = Some((own, results)),
             Said::End(calls, sum) => self.end = Some(End { number, calls, sum }),
         }
@@ -225,6 +242,9 @@ fn read_line(said: &str, header: &mut &[&str]) -> Option<Said> {
         };
     }
     *header = &header[1..];
+    if first == state::NAME {
+        return state::read(words).map(|state| Said::State(state.into()));
+    }
     match (first, words.next(), words.next()) {
         ("record", Some(VERSION), None) => Some(Said::Version(VERSION)),
         ("record", Some(ENDLESS), None) => Some(Said::Version(ENDLESS)),
@@ -297,10 +317,11 @@ pub fn module_sum(file: &[u8]) -> Checksum {
     Checksum::of(file)
 }
 
-/// The header of a record of this module.
-pub fn header(file: &[u8]) -> String {
+/// The header of a record of this module that begins from a state.
+pub fn header(file: &[u8], state: &State) -> String {
     let (program, sum) = (env!("CARGO_PKG_VERSION"), module_sum(file));
-    format!("record {VERSION}\nprogram lampthistle {program}\nmodule {sum}\n")
+    let state = state::line(state);
+    format!("record {VERSION}\nprogram lampthistle {program}\nmodule {sum}\n{state}")
 }
 
 /// The end of a record that stands before it, with so many calls.

@@ -17,10 +17,12 @@ pub struct Trial<'a> {
 }
 
 impl<'a> Trial<'a> {
-    /// A trial of an accepted module; its frames go to the sound file, if there is one.
-    pub fn new(file: &'a [u8], sound: Option<Sound>) -> Trial<'a> {
+    /// A trial of an accepted module from a legal state; its frames go to the sound file, if there is one.
+    pub fn new(file: &'a [u8], state: State, sound: Option<Sound>) -> Trial<'a> {
+        let mut song = Song::new(file);
+        song.state = state;
         Trial {
-            song: Song::new(file),
+            song,
             sound,
             heard: Checksum::new(),
             frames: 0,
@@ -28,15 +30,14 @@ impl<'a> Trial<'a> {
         }
     }
 
-    /// The same trial without its sound, until it has more than so many frames.
-    pub fn silent(file: &[u8], limit: u64) -> Trial<'static> {
-        Trial {
-            song: Song::silent(file),
-            sound: None,
-            heard: Checksum::new(),
-            frames: 0,
-            limit: Some(limit),
+    /// The same trial without its sound, until it has more than so many frames. Only a fresh state is legal without samples.
+    pub fn silent(file: &'a [u8], state: State, limit: u64) -> Trial<'a> {
+        let mut trial = Trial::new(file, state, None);
+        if state.0 == lampthistle::fresh().0 {
+            trial.song = Song::silent(file);
         }
+        trial.limit = Some(limit);
+        trial
     }
 
     pub fn state(&self) -> &State {

@@ -134,7 +134,7 @@ impl Words {
 
     /// Whether the command's result goes to standard output.
     pub fn result_to_stdout(&self) -> bool {
-        ["--out", "--record"]
+        ["--out", "--record", "--save"]
             .map(|option| self.value(option))
             .contains(&Some(OsStr::new("-")))
     }

@@ -101,7 +101,7 @@ fn replay_prints_an_object_a_call() {
     let text = std::fs::read_to_string(record).unwrap();
     std::fs::write(record, ended(&text.replace("= 16 0", "= 17 0"))).unwrap();
     let (status, lines) = self::lines(&["replay", &name, record, "--check"]);
-    let end = r#""line":5,"difference":"touch 1 5 0: number 16, recorded 17"}"#;
+    let end = r#""line":6,"difference":"touch 1 5 0: number 16, recorded 17"}"#;
     assert!(status == 1 && lines[0].ends_with(end), "{}", lines[0]);
 }
 

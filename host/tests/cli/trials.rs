@@ -109,16 +109,17 @@ fn a_record_holds_what_came_of_each_call() {
     );
     assert_eq!(
         lines[2..4],
-        [format!("module {module}"), "# a trial".into()]
+        [format!("module {module}"), "state fresh".into()]
     );
+    assert_eq!(lines[4], "# a trial");
     assert_eq!(
-        lines[4..6],
+        lines[5..7],
         [format!("play 5 = 0 0 5 5 {five} # begins"), String::new()]
     );
-    assert_eq!(lines[6], format!("touch 0 3 1 = 0 0 0 5 {five}"));
-    assert_eq!(lines[7], format!("page = 0 0 0 5 {five}"));
-    assert_eq!(lines[8], format!("touch 0 5 1 = 16 0 0 5 {five}"));
-    assert!(lines[9].starts_with("play 2 = 0 0 2 7 ") && lines.len() == 11);
+    assert_eq!(lines[7], format!("touch 0 3 1 = 0 0 0 5 {five}"));
+    assert_eq!(lines[8], format!("page = 0 0 0 5 {five}"));
+    assert_eq!(lines[9], format!("touch 0 5 1 = 16 0 0 5 {five}"));
+    assert!(lines[10].starts_with("play 2 = 0 0 2 7 ") && lines.len() == 12);
     assert_eq!(record, ended(&record));
 }
 
@@ -138,20 +139,20 @@ fn a_record_comes_again() {
 fn a_record_that_differs_says_where_and_how() {
     let (_, written) = recorded("differs.record");
     let zeros = "0".repeat(16);
-    let sum = written.lines().nth(6).unwrap().rsplit(' ').next().unwrap();
+    let sum = written.lines().nth(7).unwrap().rsplit(' ').next().unwrap();
     for (from, to, line) in [
         (
             "16 0 0 5",
             "17 0 0 5",
-            ":9: touch 0 5 1: number 16, recorded 17",
+            ":10: touch 0 5 1: number 16, recorded 17",
         ),
-        ("= 0 0 2 7", "= 0 1 2 7", ":10: play 2: place 0, recorded 1"),
-        ("= 0 0 2 7", "= 0 0 3 7", ":10: play 2: count 2, recorded 3"),
-        ("= 0 0 2 7", "= 0 0 2 8", ":10: play 2: clock 7, recorded 8"),
+        ("= 0 0 2 7", "= 0 1 2 7", ":11: play 2: place 0, recorded 1"),
+        ("= 0 0 2 7", "= 0 0 3 7", ":11: play 2: count 2, recorded 3"),
+        ("= 0 0 2 7", "= 0 0 2 8", ":11: play 2: clock 7, recorded 8"),
         (
             sum,
             &zeros,
-            &format!(":5: play 5: sound {sum}, recorded {zeros}"),
+            &format!(":6: play 5: sound {sum}, recorded {zeros}"),
         ),
     ] {
         let other = text("other.record", &ended(&written.replacen(from, to, 1)));
@@ -221,12 +222,12 @@ fn recorded_bursts_come_again() {
     let words = ["replay", &stored("flow"), &script, "--record", "-"];
     let (status, written, _) = told(&words);
     assert_eq!(status, 0);
-    let line = written.lines().nth(4).unwrap();
+    let line = written.lines().nth(5).unwrap();
     assert!(
         line.starts_with("burst 0 3 1 1 5 0 = 0 0 2 0 16 5 "),
         "{line}"
     );
-    let line = written.lines().nth(6).unwrap();
+    let line = written.lines().nth(7).unwrap();
     assert!(
         line.starts_with(&format!("burst{many} = 26 0 0 7 ")),
         "{line}"
@@ -238,12 +239,12 @@ fn recorded_bursts_come_again() {
     assert_eq!(check(&written).0, 0);
     let (status, _, err) = check(&written.replacen("2 0 16 5", "2 0 17 5", 1));
     assert_eq!(status, 1);
-    let end = ":5: burst 0 3 1 1 5 0: touch 2: number 16, recorded 17\n";
+    let end = ":6: burst 0 3 1 1 5 0: touch 2: number 16, recorded 17\n";
     assert!(err.ends_with(end), "{err}");
     // An answer too few.
     let (status, _, err) = check(&written.replacen("2 0 16 5", "2 0 5", 1));
     assert_eq!(status, 2);
-    assert!(err.contains(":5: not play N"), "{err}");
+    assert!(err.contains(":6: not play N"), "{err}");
     // The same touches one by one sound the same.
     let singles = text("singles.txt", "play 5\ntouch 0 3 1\ntouch 1 5 0\nplay 2\n");
     let (_, other, _) = told(&["replay", &stored("flow"), &singles, "--record", "-"]);
@@ -262,7 +263,7 @@ fn recorded_causes_come_again() {
     let empty = checksum(&[]);
     let lines: Vec<&str> = written.lines().collect();
     assert_eq!(status, 0);
-    assert_eq!(lines[3], format!("why = 0 0 4 1 1 1 1 0 {empty}"));
+    assert_eq!(lines[4], format!("why = 0 0 4 1 1 1 1 0 {empty}"));
     let record = text("causes.record", &written);
     let check = |record: &str| told(&["replay", &stored("flow"), record, "--check"]);
     assert_eq!(check(&record).0, 0);
@@ -270,7 +271,7 @@ fn recorded_causes_come_again() {
     let (status, _, err) = check(&text("causes.record", &ended(&other)));
     assert_eq!(status, 1);
     assert!(
-        err.ends_with(":4: why: channel 3: cause 1, recorded 5\n"),
+        err.ends_with(":5: why: channel 3: cause 1, recorded 5\n"),
         "{err}"
     );
     // A cause too few, and causes where none belong.
@@ -303,7 +304,7 @@ fn what_is_no_record_is_not_checked() {
     let (status, _, err) = told(&["replay", module, &bare, "--check"]);
     assert_eq!(status, 2);
     assert!(
-        err.contains("bare.record:11: play 3: has no results"),
+        err.contains("bare.record:12: play 3: has no results"),
         "{err}"
     );
 }
@@ -328,7 +329,7 @@ fn a_cut_record_does_not_hold() {
     let end = written.rfind("end ").unwrap();
     let (status, err) = checked("cut.record", &written[..end]);
     assert_eq!(status, 1);
-    let said = "cut.record:11: no end: the record is cut; its 5 calls came again\n";
+    let said = "cut.record:12: no end: the record is cut; its 5 calls came again\n";
     assert!(err.ends_with(said), "{err}");
     // As a script it runs, as any does.
     let cut = own("cut.record");
@@ -341,12 +342,12 @@ fn a_cut_record_does_not_hold() {
 #[test]
 fn a_changed_record_does_not_hold() {
     let (_, written) = recorded("unchanged.record");
-    let page = written.lines().nth(7).unwrap();
+    let page = written.lines().nth(8).unwrap();
     for (from, to, said) in [
-        (page, "", ":11: end: calls 4, recorded 5; "),
-        ("# begins", "# ends", ":11: end: checksum "),
-        ("16 0 0 5", "17 0 0 5", ":11: end: checksum "),
-        ("end 5", "end 6", ":11: end: calls 5, recorded 6; "),
+        (page, "", ":12: end: calls 4, recorded 5; "),
+        ("# begins", "# ends", ":12: end: checksum "),
+        ("16 0 0 5", "17 0 0 5", ":12: end: checksum "),
+        ("end 5", "end 6", ":12: end: calls 5, recorded 6; "),
     ] {
         let (status, err) = checked("changed.record", &written.replacen(from, to, 1));
         assert_eq!(status, 1, "{to}");
@@ -356,14 +357,14 @@ fn a_changed_record_does_not_hold() {
     for more in ["play 3\n", "# a remark\n"] {
         let (status, err) = checked("longer.record", &(written.clone() + "\n" + more));
         assert_eq!(status, 2);
-        let said = format!("longer.record:13: after the record's end: {more}");
+        let said = format!("longer.record:14: after the record's end: {more}");
         assert!(err.ends_with(&said), "{err}");
     }
     assert_eq!(checked("longer.record", &(written.clone() + "\n \n")).0, 0);
     let remark = written.trim_end().to_string() + " # a remark\n";
     let (status, err) = checked("longer.record", &remark);
     assert_eq!(status, 2);
-    let said = "longer.record:11: after the record's end: # a remark\n";
+    let said = "longer.record:12: after the record's end: # a remark\n";
     assert!(err.ends_with(said), "{err}");
 }
 
@@ -371,6 +372,7 @@ fn a_changed_record_does_not_hold() {
 fn a_record_of_version_1_says_what_is_not_known() {
     let (_, written) = recorded("second.record");
     let first = written.replacen("record 2", "record 1", 1);
+    let first = first.replacen("state fresh\n", "", 1);
     let (old, end) = first.split_at(first.rfind("end ").unwrap());
     let (status, err) = checked("first.record", old);
     assert_eq!(status, 1);
@@ -393,4 +395,100 @@ fn a_record_of_version_1_says_what_is_not_known() {
     ];
     let (status, out, _) = told(&words);
     assert_eq!((status, out), (0, written));
+}
+
+/// Runs replay on the stored module in the tests' own folder, and gives what it prints.
+fn ran(words: &[&str]) -> String {
+    let (status, out, err) = told(&[&["replay", &stored("flow")], words].concat());
+    assert_eq!((status, err.as_str()), (0, ""), "{words:?}");
+    out
+}
+
+#[test]
+fn a_trial_goes_on_from_a_state() {
+    let whole = text("on_whole.txt", "play 5\ntouch 0 3 1\npage\nplay 7\nwhy\n");
+    let first = text("on_first.txt", "play 5\ntouch 0 3 1\n");
+    let second = text("on_second.txt", "page\nplay 7\nwhy\n");
+    let out = ran(&["--plain", &whole, "--out", "on_whole.raw"]);
+    let mut on = ran(&["--plain", &first, "--out", "on_1.raw", "--save", "on.state"]);
+    let words = [
+        "--from",
+        "on.state",
+        "--out",
+        "on_2.raw",
+        "--record",
+        "on.record",
+    ];
+    on += &ran(&[&["--plain", &second], &words[..]].concat());
+    assert_eq!(on, out);
+    let sound = |name: &str| std::fs::read(own(name)).unwrap();
+    assert!([sound("on_1.raw"), sound("on_2.raw")].concat() == sound("on_whole.raw"));
+    // The record names the state, begins from it, and sums the frames from there on.
+    let record = String::from_utf8(sound("on.record")).unwrap();
+    let state = String::from_utf8(sound("on.state")).unwrap();
+    assert_eq!(format!("{}\n", record.lines().nth(3).unwrap()), state);
+    assert!(record.contains(&format!(" 12 {}\n", checksum(&sound("on_2.raw")))));
+    assert_eq!(checked("on_again.record", &record), (0, String::new()));
+    let (_, again, _) = told(&["replay", &stored("flow"), "on.record", "--record", "-"]);
+    assert_eq!(again, record);
+    let fresh = record.replacen(&state, "state fresh\n", 1);
+    let (status, err) = checked("on_again.record", &ended(&fresh));
+    assert!(
+        status == 1 && err.contains(":5: page: clock 0, recorded 5"),
+        "{err}"
+    );
+}
+
+#[test]
+fn a_state_that_is_none_is_refused() {
+    let script = text("state.txt", "play 1\n");
+    ran(&[&script, "--save", "good.state"]);
+    let good = std::fs::read_to_string(own("good.state")).unwrap();
+    assert_eq!(good.split(' ').count(), 174);
+    let cut = good.trim_end();
+    for wrong in [
+        "",
+        "fresh\n",
+        "state\n",
+        "state old\n",
+        cut,
+        &good.replacen(" ", " 1 ", 1),
+    ] {
+        let state = text("wrong.state", wrong);
+        let (status, out, err) = told(&["replay", &stored("flow"), &script, "--from", &state]);
+        assert_eq!((status, out.as_str()), (2, ""), "{wrong}");
+        let said = "wrong.state: not a line of the word state and fresh or 173 numbers\n";
+        assert!(err.ends_with(said), "{err}");
+    }
+    // All cells are numbers, but not a state's.
+    let state = text("wrong.state", &format!("state{}\n", " 99999".repeat(173)));
+    let kept = own("wrong_state.raw");
+    let words = ["--from", &state, "--out", kept.to_str().unwrap()];
+    let (status, out, _) = told(&[&["replay", &stored("flow"), &script], &words[..]].concat());
+    assert!(
+        status == 1 && out.contains("wrong.state: refused 14 at 0"),
+        "{out}"
+    );
+    assert!(!kept.exists());
+    let (_, record) = recorded("stateless.record");
+    let (status, err) = checked("stateless.record", &record.replacen("state fresh\n", "", 1));
+    assert!(
+        status == 2 && err.ends_with("not a record: it names no state\n"),
+        "{err}"
+    );
+    for (words, said) in [
+        (["--check", "--from", "x"], "--check and --from exclude"),
+        (["--check", "--save", "x"], "--check and --save exclude"),
+        (
+            ["--save", "x.raw", "--out=x.raw"],
+            "--out and --save are one file",
+        ),
+        (
+            ["--save", "-", "--record=-"],
+            "--record and --save are both -",
+        ),
+    ] {
+        let (status, _, err) = told(&[&["replay", &stored("flow"), &script], &words[..]].concat());
+        assert!(status == 2 && err.contains(said), "{err}");
+    }
 }
