@@ -28,9 +28,9 @@ pub ends-by : (f k : ℕ) (x : Ends) → f ≡ k → x ≡ endsOf k → x ≡ en
 ends-by f k x e q = rw e q
 
 -- an entry of the row is the table's
-pub entry-in : (f i x : ℕ) (row : List ℕ) → row ≡ rowOf f → i ≤ lastNote → x ≡ getD row i 0 → x ≡ entry f i
+pub entry-in : (f i : ℕ) (row : List ℕ) → row ≡ rowOf f → i ≤ lastNote → getD row i 0 ≡ entry f i
 unfolding rowOf
-entry-in f i x row e l q = q ∙ rw e (getD-each (entry f) rowLength i 0 (omega arith))
+entry-in f i row e l = rw e (getD-each (entry f) rowLength i 0 (omega arith))
 
 -- ---- a finetune past the last has no row: its numbers read as 0
 module _ (f : ℕ) where
@@ -66,15 +66,15 @@ pub none-passed : (row : List ℕ) (f p : ℕ) → row ≡ rowOf f → Passed ro
 none-passed row f p e = record { low = zero≤; same = e; none = some-none (reached f p) }
 
 module _ (row : List ℕ) (f p i : ℕ) (w : Passed row f p i) (l : i < lastNote) where
-  is : (x : ℕ) → x ≡ getD row i 0 → x ≡ entry f i
-  is x e = entry-in f i x row (w .same) (w .low) e
+  is : getD row i 0 ≡ entry f i
+  is = entry-in f i row (w .same) (w .low)
 
-  pub one-passed : (x : ℕ) → x ≡ getD row i 0 → p < x → Passed row f p (i + 1)
-  one-passed x e h = record { low = omega arith; same = w .same; none = some-not (reached f p) i (w .none) (lt-leb (entry f i) p (rw (is x e) at h)) }
+  pub one-passed : p < getD row i 0 → Passed row f p (i + 1)
+  one-passed h = record { low = omega arith; same = w .same; none = some-not (reached f p) i (w .none) (lt-leb (entry f i) p (rw is at h)) }
 
-  pub place-found : (x : ℕ) → x ≡ getD row i 0 → x ≤ p → (i ≡ placeOf f p) × (i ≤ lastNote)
+  pub place-found : getD row i 0 ≤ p → (i ≡ placeOf f p) × (i ≤ lastNote)
   unfolding placeOf
-  place-found x e h = (at-first (reached f p) i lastNote l (w .none) (le-leb (entry f i) p (rw (is x e) at h)), w .low)
+  place-found h = (at-first (reached f p) i lastNote l (w .none) (le-leb (entry f i) p (rw is at h)), w .low)
 
 pub place-last : (row : List ℕ) (f p i : ℕ) → Passed row f p i → lastNote ≤ i → (lastNote ≡ placeOf f p) × (lastNote ≤ lastNote)
 unfolding placeOf
@@ -101,11 +101,11 @@ module _ (f n g : ℕ) (e : g ≡ greatestOf f) where
     kept-inside k = rw (le-ltb (greatestOf f) n (rw e at h), le-ltb n (leastOf f) (rw q at k))
 
 -- ---- so many semitones on, and past the last
-module _ (f p n by r : ℕ) (row : List ℕ) (s : row ≡ rowOf f) (e : n ≡ placeOf f p) where
-  pub semitones-on : n + by < lastNote → r ≡ getD row (n + by) 0 → r ≡ semitones f p by
+module _ (f p n by : ℕ) (row : List ℕ) (s : row ≡ rowOf f) (e : n ≡ placeOf f p) where
+  pub semitones-on : n + by < lastNote → getD row (n + by) 0 ≡ semitones f p by
   unfolding semitones
-  semitones-on l q = entry-in f (n + by) r row s (omega arith) q ∙ ap (entry f) (omega arith)
+  semitones-on l = entry-in f (n + by) row s (omega arith) ∙ ap (entry f) (omega arith)
 
-  pub semitones-last : lastNote ≤ n + by → r ≡ getD row lastNote 0 → r ≡ semitones f p by
+  pub semitones-last : lastNote ≤ n + by → getD row lastNote 0 ≡ semitones f p by
   unfolding semitones
-  semitones-last l q = entry-in f lastNote r row s (omega arith) q ∙ ap (entry f) (omega arith)
+  semitones-last l = entry-in f lastNote row s (omega arith) ∙ ap (entry f) (omega arith)

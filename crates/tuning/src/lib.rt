@@ -4,6 +4,7 @@ ghost use Prim.Native.Nat.{_≤_};
 ghost use Rattle.tuning.specs.Table.{lastNote, entry, rowOf};
 ghost use Rattle.tuning.specs.Tuned.{placeOf, tuned, kept, semitones};
 use crate::table::LAST_NOTE;
+use crate::table::ROW_0;
 use crate::table::ROW_LENGTH;
 pub use crate::table::greatest_of;
 use crate::table::least_of;
@@ -14,30 +15,23 @@ mod table;
 // The largest finetune, which means -1.
 pub const LAST_FINETUNE: u32 = 15;
 
-// A period of the table.
-fn wide(period: u16) -> u32
-    ensures { λ r. ⌜ r ≡ period ⌝ }
-{
-    period as u32
-}
-
 // The entry of a row at a place.
 fn entry(finetune: u32, note: usize) -> u32
     requires { ⌜ note ≤ lastNote ⌝ }
     ensures { λ r. ⌜ r ≡ entry finetune note ⌝ }
 {
     let row = row_of(finetune);
-    wide(row[note])
+    row[note]
 }
 
 // Where a finetune's row is first at or below a period, or its last place.
-fn place_of(finetune: u32, row: [u16; ROW_LENGTH], period: u32) -> usize
+fn place_of(finetune: u32, row: [u32; ROW_LENGTH], period: u32) -> usize
     requires { ⌜ row ≡ rowOf finetune ⌝ }
     ensures { λ r. ⌜ (r ≡ placeOf finetune period) × (r ≤ lastNote) ⌝ }
 {
     let mut note = 0;
     while note < LAST_NOTE {
-        if wide(row[note]) <= period {
+        if row[note] <= period {
             return note;
         }
         note += 1;
@@ -70,15 +64,25 @@ pub fn kept(finetune: u32, n: u32) -> u32
     n
 }
 
-// A period so many semitones up.
+// A period so many semitones up in its finetune's row.
+fn semitones_in(finetune: u32, row: [u32; ROW_LENGTH], period: u32, by: u32) -> u32
+    requires { ⌜ row ≡ rowOf finetune ⌝ }
+    ensures { λ r. ⌜ r ≡ semitones finetune period by ⌝ }
+{
+    let note = place_of(finetune, row, period) + by as usize;
+    if note < LAST_NOTE {
+        row[note]
+    } else {
+        row[LAST_NOTE]
+    }
+}
+
+// A period so many semitones up. Most samples have finetune 0, whose row is quicker to come by than one that is chosen.
 pub fn semitones(finetune: u32, period: u32, by: u32) -> u32
     ensures { λ r. ⌜ r ≡ semitones finetune period by ⌝ }
 {
-    let row = row_of(finetune);
-    let note = place_of(finetune, row, period) + by as usize;
-    if note < LAST_NOTE {
-        wide(row[note])
-    } else {
-        wide(row[LAST_NOTE])
+    if finetune == 0 {
+        return semitones_in(finetune, ROW_0, period, by);
     }
+    semitones_in(finetune, row_of(finetune), period, by)
 }

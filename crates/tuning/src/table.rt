@@ -1,5 +1,4 @@
-// The 16 rows of 36 periods, as printed. A row is chosen by a match, so that at most that row is copied: one array of all would be, at each use. In 16
-// bits a row is 72 bytes, which are copied in place.
+// The 16 rows of 36 periods, as printed. A row is chosen by a match, so that at most that row is copied: one array of all would be, at each use.
 ghost use mathlib.Core.Path.{_≡_};
 ghost use Rattle.tuning.specs.Ends.{endsOf};
 ghost use Rattle.tuning.specs.Table.{greatestOf, leastOf, rowOf};
@@ -10,7 +9,7 @@ pub const ROW_LENGTH: usize = 36;
 pub const LAST_NOTE: usize = 35;
 
 // Finetune 0.
-const ROW_0: [u16; ROW_LENGTH] = [
+pub const ROW_0: [u32; ROW_LENGTH] = [
     856,
     808,
     762,
@@ -50,7 +49,7 @@ const ROW_0: [u16; ROW_LENGTH] = [
 ];
 
 // Finetune 1.
-const ROW_1: [u16; ROW_LENGTH] = [
+const ROW_1: [u32; ROW_LENGTH] = [
     850,
     802,
     757,
@@ -90,7 +89,7 @@ const ROW_1: [u16; ROW_LENGTH] = [
 ];
 
 // Finetune 2.
-const ROW_2: [u16; ROW_LENGTH] = [
+const ROW_2: [u32; ROW_LENGTH] = [
     844,
     796,
     752,
@@ -130,7 +129,7 @@ const ROW_2: [u16; ROW_LENGTH] = [
 ];
 
 // Finetune 3.
-const ROW_3: [u16; ROW_LENGTH] = [
+const ROW_3: [u32; ROW_LENGTH] = [
     838,
     791,
     746,
@@ -170,7 +169,7 @@ const ROW_3: [u16; ROW_LENGTH] = [
 ];
 
 // Finetune 4.
-const ROW_4: [u16; ROW_LENGTH] = [
+const ROW_4: [u32; ROW_LENGTH] = [
     832,
     785,
     741,
@@ -210,7 +209,7 @@ const ROW_4: [u16; ROW_LENGTH] = [
 ];
 
 // Finetune 5.
-const ROW_5: [u16; ROW_LENGTH] = [
+const ROW_5: [u32; ROW_LENGTH] = [
     826,
     779,
     736,
@@ -250,7 +249,7 @@ const ROW_5: [u16; ROW_LENGTH] = [
 ];
 
 // Finetune 6.
-const ROW_6: [u16; ROW_LENGTH] = [
+const ROW_6: [u32; ROW_LENGTH] = [
     820,
     774,
     730,
@@ -290,7 +289,7 @@ const ROW_6: [u16; ROW_LENGTH] = [
 ];
 
 // Finetune 7.
-const ROW_7: [u16; ROW_LENGTH] = [
+const ROW_7: [u32; ROW_LENGTH] = [
     814,
     768,
     725,
@@ -330,7 +329,7 @@ const ROW_7: [u16; ROW_LENGTH] = [
 ];
 
 // Finetune -8.
-const ROW_8: [u16; ROW_LENGTH] = [
+const ROW_8: [u32; ROW_LENGTH] = [
     907,
     856,
     808,
@@ -370,7 +369,7 @@ const ROW_8: [u16; ROW_LENGTH] = [
 ];
 
 // Finetune -7.
-const ROW_9: [u16; ROW_LENGTH] = [
+const ROW_9: [u32; ROW_LENGTH] = [
     900,
     850,
     802,
@@ -410,7 +409,7 @@ const ROW_9: [u16; ROW_LENGTH] = [
 ];
 
 // Finetune -6.
-const ROW_10: [u16; ROW_LENGTH] = [
+const ROW_10: [u32; ROW_LENGTH] = [
     894,
     844,
     796,
@@ -450,7 +449,7 @@ const ROW_10: [u16; ROW_LENGTH] = [
 ];
 
 // Finetune -5.
-const ROW_11: [u16; ROW_LENGTH] = [
+const ROW_11: [u32; ROW_LENGTH] = [
     887,
     838,
     791,
@@ -490,7 +489,7 @@ const ROW_11: [u16; ROW_LENGTH] = [
 ];
 
 // Finetune -4.
-const ROW_12: [u16; ROW_LENGTH] = [
+const ROW_12: [u32; ROW_LENGTH] = [
     881,
     832,
     785,
@@ -530,7 +529,7 @@ const ROW_12: [u16; ROW_LENGTH] = [
 ];
 
 // Finetune -3.
-const ROW_13: [u16; ROW_LENGTH] = [
+const ROW_13: [u32; ROW_LENGTH] = [
     875,
     826,
     779,
@@ -570,7 +569,7 @@ const ROW_13: [u16; ROW_LENGTH] = [
 ];
 
 // Finetune -2.
-const ROW_14: [u16; ROW_LENGTH] = [
+const ROW_14: [u32; ROW_LENGTH] = [
     868,
     820,
     774,
@@ -610,7 +609,7 @@ const ROW_14: [u16; ROW_LENGTH] = [
 ];
 
 // Finetune -1.
-const ROW_15: [u16; ROW_LENGTH] = [
+const ROW_15: [u32; ROW_LENGTH] = [
     862,
     814,
     768,
@@ -650,7 +649,7 @@ const ROW_15: [u16; ROW_LENGTH] = [
 ];
 
 // A finetune's row.
-pub fn row_of(finetune: u32) -> [u16; ROW_LENGTH]
+pub fn row_of(finetune: u32) -> [u32; ROW_LENGTH]
     ensures { λ r. ⌜ r ≡ rowOf finetune ⌝ }
 {
     match finetune {
@@ -676,8 +675,8 @@ pub fn row_of(finetune: u32) -> [u16; ROW_LENGTH]
 
 // A row's first period, its greatest, and its last, its least.
 pub struct Ends {
-    pub first: u16,
-    pub last: u16,
+    pub first: u32,
+    pub last: u32,
 }
 
 fn ends_of(finetune: u32) -> Ends
@@ -757,7 +756,7 @@ pub fn greatest_of(finetune: u32) -> u32
     ensures { λ r. ⌜ r ≡ greatestOf finetune ⌝ }
 {
     let ends = ends_of(finetune);
-    ends.first as u32
+    ends.first
 }
 
 // The least.
@@ -765,5 +764,5 @@ pub fn least_of(finetune: u32) -> u32
     ensures { λ r. ⌜ r ≡ leastOf finetune ⌝ }
 {
     let ends = ends_of(finetune);
-    ends.last as u32
+    ends.last
 }

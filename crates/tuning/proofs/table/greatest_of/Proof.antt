@@ -10,5 +10,4 @@ greatest-of-spec =
     tie.close
     (tie.spec
     (λ c κs. search needs)
-    (λ c. search needs)
-    (λ c. ap (λ (x : Ends). x .first) (c .before .ends-of .ensures)))
+    (λ c. ap (λ (x : Ends). x .first) (c .ends-of .ensures)))
