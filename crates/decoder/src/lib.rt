@@ -39,10 +39,11 @@ struct ChannelRead {
 }
 
 // All channels' commands that were read, and the place after them; where they are bad the registers and the place before them.
+// The commands stand first: behind a flag they would be copied from an odd byte on, by loads across two stores, which wait for both.
 struct ChannelsRead {
-    ok: bool,
     commands: [Command; WIDTH],
     next: usize,
+    ok: bool,
 }
 
 // The record that was read, and the place after it; where it is bad a tick of the registers with tempo 0, and the place before it.

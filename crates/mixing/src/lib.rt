@@ -1,6 +1,6 @@
 // Mixing voices into frames: the voices are told their commands, and their frames are mixed piece by piece, each side by itself, or passed by.
 ghost use mathlib.Core.Path.{_≡_};
-ghost use mathlib.Core.List.{_++_};
+ghost use mathlib.Core.List.{[], _++_};
 ghost use Prim.Native.Nat.{ℕ, _*_, _<_, _≤_};
 ghost use lib.ListN.{length, getD, drop};
 ghost use Rattle.laws.specs.Ranges.{every, within};
@@ -10,12 +10,11 @@ ghost use Rattle.reader.specs.File.{lent};
 ghost use Rattle.reader.specs.Samples.{noExtent};
 ghost use Rattle.reader.specs.Layouts.{LegalLayout};
 ghost use Rattle.ticks.specs.Commands.{nothing};
-ghost use Rattle.voice.specs.Modules.{samplesIn};
-ghost use Rattle.voice.specs.Frames.{scaleOf, frameNumbers, blank, mixed, moved};
-ghost use Rattle.voice.specs.LegalFacts.{Ready};
+ghost use Rattle.voice.specs.Modules.{sampleWith, samplesIn};
+ghost use Rattle.voice.specs.Frames.{stepsOf, scaleOf, frameNumbers, blank, mixed, moved};
+ghost use Rattle.voice.specs.LegalFacts.{LegalSound, LoopInside, Ready};
 ghost use Rattle.mixing.specs.Sides.{markAt, toldAt, silentAt};
 use crate::pieces::mix_pieces;
-use crate::unheard::pass_frames;
 use common::limits::SAMPLE_NUMBERS;
 use common::limits::WIDTH;
 use reader::Extent;
@@ -26,7 +25,6 @@ use voice::Voice;
 
 mod pieces;
 mod side;
-mod unheard;
 
 // With up to so many channels a side is twice the sum, with more the plain sum.
 const DOUBLED_TO: usize = 4;
@@ -123,6 +121,16 @@ pub fn mix(
     mix_pieces(channels, file, marks, told, times, frames, out)
 }
 
+// A voice after the next frames, which nobody hears.
+fn pass_voice(extent: Extent, voice: Voice, frames: usize) -> Voice
+    requires looping { ⌜ LoopInside (sampleWith [] extent) ⌝ }
+    requires legal { ⌜ LegalSound (extent .end) voice ⌝ }
+    ensures { λ r. ⌜ r ≡ stepsOf (sampleWith [] extent) frames voice ⌝ }
+{
+    let pace = voice_runs::pace(voice.period);
+    voice_runs::pass(voice, extent, pace, frames)
+}
+
 // The voices after a number of frames that nobody hears. No byte of the file is read.
 pub fn pass(
     layout: Layout,
@@ -136,8 +144,16 @@ pub fn pass(
     requires ready { ⌜ Ready (lent layout (now file)) extents voices commands ⌝ }
     ensures { λ r. ⌜ r ≡ moved (layout .channels) (samplesIn (lent layout (now (file .entry))) extents) voices commands frames ⌝ }
 {
-    let channels = layout.channels;
-    let marks = named(channels, extents, commands);
-    let told = tell(channels, marks, voices, commands);
-    pass_frames(channels, file, marks, told, frames)
+    let mut w = voices;
+    let mut i = 0;
+    while i < layout.channels {
+        let command = commands[i];
+        let k = command.sample as usize;
+        let extent = extents[k];
+        let voice = w[i];
+        let told = voice.told(command, extent);
+        w[i] = pass_voice(extent, told, frames);
+        i += 1;
+    }
+    w
 }

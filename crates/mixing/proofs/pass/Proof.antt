@@ -1,23 +1,35 @@
--- The voices told their commands, and then all moved.
-use Rattle.mixing.proofs.Mixing.{samples-known, told-sounding, pieces-moved}
+-- The loop tells each voice its command and moves it by all frames; past the count they stay.
+use borrow.Author.Needs.{needs}
+use Prim.Native.Nat.{_-_}
+use Rattle.mixing.proofs.Passing.{Passing, passing-none, passing-few, passing-known, passing-loop, passing-legal, passing-more, passing-end}
 use Rattle.mixing.proofs.pass.Statement.{statement}
 use Rattle.mixing.proofs.pass.Tie as tie
 
-named-requires : tie.Need-named-requires
-named-requires c κs = let p = c .before .pre in (p .0 .channels, samples-known _ _ _ _ _ (p .0) (p .1))
+abbrev Inv-loop : tie.InvT-loop
+Inv-loop layout file frames extents commands w₀ i₀ w i = Passing layout file extents w₀ commands frames w i
 
-tell-requires : tie.Need-tell-requires
-tell-requires c κs = c .before .before .pre .0 .channels
-
-pass-frames-requires : tie.Need-pass-frames-requires
-pass-frames-requires c κs =
-    let p = c .before .before .before .pre in
-    told-sounding _ _ _ _ _ (p .0) (p .1) _ _ (c .before .named .ensures) (c .tell .ensures)
-
-returns : tie.Need-returns
-returns c =
-    let p = c .before .before .before .before .pre in
-    pieces-moved _ _ _ _ _ (p .0) (p .1) _ _ (c .before .before .named .ensures) (c .before .tell .ensures) _ _ (c .pass-frames .ensures)
+abbrev μ-loop : tie.MeasureT-loop
+μ-loop layout file frames extents commands w₀ i₀ w i = layout .channels - i
 
 pub pass-spec : {M : Type 1} → statement M
-pass-spec = tie.close (tie.spec named-requires tell-requires pass-frames-requires returns)
+pass-spec =
+    tie.close
+    (tie.spec
+    Inv-loop
+    μ-loop
+    (λ c. search (passing-none, needs))
+    (λ c. search (passing-few, needs))
+    (λ c. search (passing-few, needs))
+    (λ c. search needs)
+    (λ c. search (passing-known, needs))
+    (λ c. search (passing-known, needs))
+    (λ c. search (passing-few, needs))
+    (λ c. search (passing-few, needs))
+    (λ c κs. search needs)
+    (λ c κs. (search (passing-loop, needs), search (passing-legal, needs)))
+    (λ c. search (passing-few, needs))
+    (λ c. search (passing-few, needs))
+    (λ c. search (passing-few, needs))
+    (λ c. search (passing-few, needs))
+    (λ c. let m = c .before .before .before .before .before .before .before .before .loop .inv in passing-more _ _ _ _ _ _ _ _ m _ (c .before .before .before .before .before .before .if1 .taken) (c .before .told .ensures) _ (c .pass-voice .ensures))
+    (λ c. search (passing-end, needs)))
