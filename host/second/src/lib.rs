@@ -1,6 +1,8 @@
 //! A second player of paper 01, of the requests of paper 02 that have landed and of calls that were
 //! asked for beside them, written from their words alone, to compare the first one with.
 
+mod arrival;
+mod board;
 mod finetune;
 mod floats;
 pub mod generate;
@@ -10,6 +12,7 @@ mod output;
 mod play;
 mod quiet;
 mod records;
+mod shown;
 mod state;
 mod stream;
 mod touch;
@@ -19,6 +22,7 @@ mod work;
 
 use module::Module;
 
+pub use arrival::{board_close, board_feed, board_fresh, Fed};
 pub use floats::{delivered, mono, side, Frame};
 pub use length::{tick_frames, tick_rest};
 pub use module::channels;
@@ -39,6 +43,13 @@ pub use voice::{growth, End, Voice};
 /// (0 sine, 1 ramp, 2 square), and of its voice sounding sample, period, volume, index, fraction,
 /// stopped (0 or 1).
 pub const STATE_CELLS: usize = 173;
+
+/// The numbers of a board where it is handed over: the place of the open header or record (low,
+/// high); how many bytes of it are kept; 52 bytes packed four a cell, the first lowest; the
+/// header's first number, version, channels and ticks; the records played; the kept fault's number
+/// and place (low, high); tempo and remainder; then for each of eight voices sounding sample,
+/// period, volume, index, fraction, stopped (0 or 1).
+pub const BOARD_CELLS: usize = 74;
 
 /// What a call answers: the refusal's number and place, or number and place 0 and the count
 /// of ticks played, bytes written or touches answered, or the cause of quiet.

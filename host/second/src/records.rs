@@ -7,19 +7,19 @@ use crate::voice::CHANNELS;
 use crate::Answer;
 
 /// The first version, whose ticks have no remainder.
-const DRIFTING: u8 = 1;
+pub const DRIFTING: u8 = 1;
 /// The version that translation writes: the first that says its channels.
 pub const COUNTED: u8 = 3;
 /// The channels of the versions before.
-const UNCOUNTED_CHANNELS: u32 = 4;
+pub const UNCOUNTED_CHANNELS: u32 = 4;
 
 /// Where the version and, in the version that has it, the count of channels stand.
-const VERSION: usize = 4;
-const CHANNEL_COUNT: usize = 5;
+pub const VERSION: usize = 4;
+pub const CHANNEL_COUNT: usize = 5;
 /// The bytes of the shortest stream: byte count, version and tick count.
-const SHORTEST: usize = 9;
+pub const SHORTEST: usize = 9;
 /// Bytes of one channel in a record.
-const COMMAND_BYTES: usize = 6;
+pub const COMMAND_BYTES: usize = 6;
 
 /// A channel's registers in one tick, whether or not they changed, and its start.
 #[derive(Clone, Copy, Debug, PartialEq, Eq)]
@@ -122,14 +122,13 @@ pub fn decode(bytes: &[u8], channels: u32) -> Result<Stream, Answer> {
     if !(DRIFTING..=COUNTED).contains(&version) {
         return Err(Answer::refused(22, VERSION));
     }
-    let count = tick_count(version);
-    if bytes.len() < count + 4 || stated_channels(bytes) != channels {
+    if bytes.len() < header_bytes(version) || stated_channels(bytes) != channels {
         return Err(Answer::refused(28, VERSION));
     }
     let mut ticks = Vec::new();
     let mut registers = [SILENT; CHANNELS];
-    let mut place = count + 4;
-    for _ in 0..number(bytes, count) {
+    let mut place = header_bytes(version);
+    for _ in 0..number(bytes, tick_count(version)) {
         let Some((tick, length)) = decode_tick(&bytes[place..], &registers, channels) else {
             return Err(Answer::refused(23, place));
         };
@@ -148,12 +147,17 @@ pub fn decode(bytes: &[u8], channels: u32) -> Result<Stream, Answer> {
 }
 
 /// Where a version's tick count stands.
-fn tick_count(version: u8) -> usize {
+pub fn tick_count(version: u8) -> usize {
     if version == COUNTED {
         CHANNEL_COUNT + 1
     } else {
         VERSION + 1
     }
+}
+
+/// The bytes before a version's first record.
+pub fn header_bytes(version: u8) -> usize {
+    tick_count(version) + 4
 }
 
 /// The channels that a stream is for.
@@ -166,7 +170,7 @@ fn stated_channels(bytes: &[u8]) -> u32 {
 }
 
 /// The four-byte number at a place.
-fn number(bytes: &[u8], place: usize) -> u64 {
+pub fn number(bytes: &[u8], place: usize) -> u64 {
     let mut number = 0;
     for byte in &bytes[place..place + 4] {
         number = 256 * number + u64::from(*byte);
@@ -175,7 +179,11 @@ fn number(bytes: &[u8], place: usize) -> u64 {
 }
 
 /// The record at the beginning of `bytes` and its length, or nothing if it is bad.
-fn decode_tick(bytes: &[u8], before: &[Command; CHANNELS], channels: u32) -> Option<(Tick, usize)> {
+pub fn decode_tick(
+    bytes: &[u8],
+    before: &[Command; CHANNELS],
+    channels: u32,
+) -> Option<(Tick, usize)> {
     let mask = u32::from(*bytes.first()?);
     let tempo = u32::from(*bytes.get(1)?);
     if mask >> channels != 0 || tempo < 32 {

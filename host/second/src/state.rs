@@ -178,7 +178,7 @@ fn legal_channel(channel: &Channel) -> bool {
         && channel.tremolo.legal()
 }
 
-fn legal_voice(voice: &Voice, module: &Module) -> bool {
+pub fn legal_voice(voice: &Voice, module: &Module) -> bool {
     if voice.sample > LAST_SAMPLE || voice.volume > LOUDEST || !legal_period(voice.period) {
         return false;
     }
@@ -213,7 +213,7 @@ fn read_wave(cells: &[u32]) -> Wave {
     }
 }
 
-fn read_voice(cells: &[u32]) -> Voice {
+pub fn read_voice(cells: &[u32]) -> Voice {
     Voice {
         sample: cells[0],
         period: cells[1],
@@ -242,7 +242,7 @@ fn write_wave(wave: &Wave, cells: &mut [u32]) {
     cells[3] = wave.form;
 }
 
-fn write_voice(voice: &Voice, cells: &mut [u32]) {
+pub fn write_voice(voice: &Voice, cells: &mut [u32]) {
     cells[0] = voice.sample;
     cells[1] = voice.period;
     cells[2] = voice.volume;

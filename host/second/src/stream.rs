@@ -148,7 +148,8 @@ fn board(module: &Module, stream: &Stream, from: u32, output: &mut impl Output) 
     Answer::accepted(played as usize)
 }
 
-fn take_commands(module: &Module, voices: &mut [Voice; CHANNELS], tick: &Tick) {
+/// Sets the registers of a tick and starts what it starts.
+pub fn take_commands(module: &Module, voices: &mut [Voice; CHANNELS], tick: &Tick) {
     for channel in 0..CHANNELS {
         let voice = &mut voices[channel];
         let command = &tick.commands[channel];
