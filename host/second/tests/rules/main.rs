@@ -1,5 +1,6 @@
 //! The papers' rules one by one, each shown on a small module built for it.
 
+mod arrival;
 mod bursts;
 mod calls;
 mod cases;
