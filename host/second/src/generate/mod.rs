@@ -1,6 +1,8 @@
-//! Seeded makers of files, states, touches and streams; the same seed always makes the same.
+//! Seeded makers of files, states, boards, touches and streams; the same seed always makes the same.
 
+pub mod arrivals;
 mod bad_streams;
+pub mod boards;
 pub mod breaks;
 pub mod bursts;
 mod cells;

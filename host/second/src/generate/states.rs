@@ -52,7 +52,7 @@ pub(super) fn accepted(file: &[u8]) -> Module<'_> {
 }
 
 /// Any number, often at the edge of what four bytes hold.
-fn any_number(random: &mut Random) -> u32 {
+pub(super) fn any_number(random: &mut Random) -> u32 {
     if random.chance(50) {
         random.pick(&[0, 1, 3, 25, 26, u32::MAX, u32::MAX - 1, 1 << 31])
     } else {
@@ -235,7 +235,7 @@ fn fill_past(random: &mut Random, cells: &mut [u32; STATE_CELLS], channels: u32)
     };
 }
 
-fn break_voice(random: &mut Random, module: &Module, cells: &mut [u32]) {
+pub(super) fn break_voice(random: &mut Random, module: &Module, cells: &mut [u32]) {
     let (number, end) = sample_with_bytes(random, module).unwrap_or((1, 0));
     match random.below(9) {
         0 => cells[0] = past(random, 32),
