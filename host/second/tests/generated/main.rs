@@ -1,5 +1,6 @@
 //! Generated modules, states, touches and streams: what holds of all of them.
 
+mod arrival;
 mod breaks;
 mod bursts;
 mod channels;
