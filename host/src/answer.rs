@@ -3,7 +3,8 @@ use crate::refusal;
 use std::{error, fmt};
 
 /// What a call answers. Number 0 is accepted; another number is a refusal, with its place. The count is what the call counts: ticks
-/// played, touches answered, bytes written, or a cause's number; 0 for the others and for every refusal.
+/// played, touches answered, bytes written, or a cause's number; 0 for the others and for every refusal, but for the fault that a byte
+/// shows as it is fed, which comes with the ticks played before it.
 #[must_use = "a refused call did nothing"]
 #[derive(Clone, Copy, Debug, PartialEq, Eq)]
 pub struct Answer {

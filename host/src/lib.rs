@@ -2,7 +2,7 @@
 //! to itself: pointers that are good for their lengths, and no two that overlap.
 //!
 //! An accepted call answers number and place 0. A refused call answers the refusal's number and place, and leaves the state and every
-//! buffer that it was lent as they were.
+//! buffer that it was lent as they were; but a fault of a stream that is fed comes after what was played before it, and is kept.
 //!
 //! A module is played a tick a call:
 //!
@@ -21,6 +21,7 @@
 //! ```
 
 mod answer;
+mod arrival;
 pub mod cell;
 mod floats;
 mod play;
@@ -31,6 +32,7 @@ mod sys;
 mod version;
 
 pub use answer::{Answer, Refusal};
+pub use arrival::{Board, Fed, BOARD_CELLS};
 pub use floats::{
     play_floats, play_stream_floats, play_stream_floats_from, tick_floats, Pair, MONO, STEREO,
 };

@@ -1,8 +1,11 @@
 //! The library's calls as `include/lampthistle.h` declares them.
-use crate::STATE_CELLS;
+use crate::{BOARD_CELLS, STATE_CELLS};
 
 type State = [u32; STATE_CELLS];
+type Board = [u32; BOARD_CELLS];
 type Answer = [u64; 3];
+/// An answer, and the bytes taken.
+type Fed = [u64; 4];
 type Pair = [f32; 2];
 
 extern "C" {
@@ -117,6 +120,23 @@ extern "C" {
         out_len: usize,
         pair: *mut Pair,
         pair_tick: *mut u32,
+        answer: *mut Answer,
+    );
+    pub fn lampthistle_board_fresh(board: *mut Board);
+    pub fn lampthistle_board_feed(
+        file: *const u8,
+        file_len: usize,
+        board: *mut Board,
+        bytes: *const u8,
+        bytes_len: usize,
+        out: *mut i16,
+        out_len: usize,
+        answer: *mut Fed,
+    );
+    pub fn lampthistle_board_close(
+        file: *const u8,
+        file_len: usize,
+        board: *mut Board,
         answer: *mut Answer,
     );
 }

@@ -1,4 +1,5 @@
 //! The safe wrappers, on modules small enough to know every answer.
+mod arrival;
 mod channels;
 mod finetune;
 
