@@ -1,6 +1,7 @@
 //! The proved library against the second implementation, on generated inputs, and what the benchmarks share.
 pub mod agreement;
 mod answers;
+pub mod arriving;
 pub mod bench;
 pub mod bursts;
 pub mod cases;

@@ -4,12 +4,12 @@ use std::process::ExitCode;
 use std::time::Instant;
 use trials::runs::{shown, Tally};
 use trials::say::say;
-use trials::{agreement, bursts, floats, judging, lengths, playing, quiet, streaming};
+use trials::{agreement, arriving, bursts, floats, judging, lengths, playing, quiet, streaming};
 
 /// A trial's name, its run over so many seeds from one on, and by how much fewer of them it takes.
 type Trial = (&'static str, fn(u64, u64) -> Result<Tally, String>, u64);
 
-const TRIALS: [Trial; 9] = [
+const TRIALS: [Trial; 11] = [
     ("judge", judging::compare, 1),
     ("play, touch, page", playing::compare, 100),
     ("touch_burst", bursts::compare, 100),
@@ -19,6 +19,8 @@ const TRIALS: [Trial; 9] = [
     ("player and board", agreement::compare, 100),
     ("play_floats, play_stream_floats", floats::compare, 100),
     ("player and board as floats", floats::boards::compare, 100),
+    ("boards fed", arriving::compare, 100),
+    ("boards forged", arriving::compare_forged, 100),
 ];
 
 fn main() -> ExitCode {
