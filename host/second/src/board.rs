@@ -188,16 +188,13 @@ impl Board {
             && past.iter().all(|voice| *voice == Voice::fresh())
     }
 
-    /// Whether a fault that the board's own numbers and bytes show is the kept one. Bytes of a
-    /// header or record that is whole are none that a board keeps.
+    /// Whether the first fault that the board's own numbers and bytes show is the kept one. Where
+    /// none is shown, bytes of a header or record that is whole are none that a board keeps.
     fn fault_legal(&self, module: &Module) -> bool {
         let in_bytes = self.bytes_show(module);
-        if in_bytes == Shown::Whole {
-            return false;
-        }
         match self.numbers_show(module).or(in_bytes.fault()) {
             Some(fault) => self.kept_fault() == Some(fault),
-            None => true,
+            None => in_bytes != Shown::Whole,
         }
     }
 }

@@ -276,7 +276,11 @@ fn the_header_s_numbers_are_held_to_the_module() {
         let board = with(&third, &[(CHANNELS, channels)]);
         is_14(&file, &board);
         repeats(&file, &with(&board, &[(NUMBER, 28), (FAULT, 4)]), 28, 4);
-    }
+    } // Nine bytes of version 3, though its header is said to be in.
+    let (_, board) = begun(&file, &stream(2, 0, &[]));
+    let nine = with(&board, &[(VERSION, 3)]);
+    is_14(&file, &nine);
+    repeats(&file, &with(&nine, &[(NUMBER, 28), (FAULT, 4)]), 28, 4);
 }
 
 #[test]
@@ -327,6 +331,28 @@ fn kept_bytes_are_an_open_header_or_record() {
     let (_, bad) = begun(&file, &super::stream(2, 3, &[0, 31]));
     assert_eq!(open(&bad), (9, 2));
     repeats(&file, &bad, 23, 9);
+}
+
+#[test]
+fn the_first_fault_decides_whatever_is_kept_behind_it() {
+    let file = song().bytes();
+    // An unknown version, and a bad tempo: bytes past it, as far as there are cells for them.
+    let (_, version) = begun(&file, &stream(9, 9, &[0; 90]));
+    let (_, tempo) = begun(&file, &stream(2, 9, &[[0, 31], [0; 2]].concat()));
+    for (board, number, place) in [(version, 22, 4), (tempo, 23, 9)] {
+        for kept in board[KEPT]..=52 {
+            let longer = with(&board, &[(KEPT, kept), (FOLLOW, 90)]);
+            repeats(&file, &longer, number, place);
+            is_14(&file, &with(&longer, &[(NUMBER, 0)]));
+        }
+        is_14(&file, &with(&board, &[(KEPT, 53), (FOLLOW, 90)]));
+    }
+    // The header's numbers come before a whole record.
+    let whole = [(BYTES, u32::from_le_bytes([0, 125, 0, 0])), (KEPT, 2)];
+    let board = with(&midway(&file), &whole);
+    is_14(&file, &board);
+    let fault = [(VERSION, 9), (NUMBER, 22), (FAULT, 4)];
+    repeats(&file, &with(&board, &fault), 22, 4);
 }
 
 #[test]
