@@ -5,8 +5,7 @@ use crate::length::{carried, tick_frames, tick_rest};
 use crate::module::Module;
 use crate::output::{Numbers, Output};
 use crate::records::{
-    decode_tick, number, tick_count, Command, Tick, CHANNEL_COUNT, COUNTED, DRIFTING, SILENT,
-    UNCOUNTED_CHANNELS, VERSION,
+    decode_tick, number, tick_count, Command, Tick, CHANNEL_COUNT, DRIFTING, SILENT, VERSION,
 };
 use crate::shown::{Fault, Shown};
 use crate::stream::take_commands;
@@ -94,10 +93,6 @@ impl Board {
             self.keep(21, self.bytes_in() + 1);
             return false;
         }
-        if !self.header_open() && self.records == self.header.ticks {
-            self.keep(23, self.place);
-            return true;
-        }
         let mut next = *self;
         next.bytes[next.kept] = byte;
         next.kept += 1;
@@ -138,14 +133,10 @@ impl Board {
 
     fn read_header(&self) -> Header {
         let version = self.bytes[VERSION];
-        let channels = match version {
-            COUNTED => self.bytes[CHANNEL_COUNT].into(),
-            _ => UNCOUNTED_CHANNELS,
-        };
         Header {
             follow: number(&self.bytes, 0) as u32,
             version: version.into(),
-            channels,
+            channels: self.bytes[CHANNEL_COUNT].into(),
             ticks: number(&self.bytes, tick_count(version)) as u32,
         }
     }

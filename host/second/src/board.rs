@@ -1,7 +1,7 @@
 //! The board that takes its stream as it arrives: its numbers, their cells, and which are legal.
 
 use crate::module::Module;
-use crate::records::{number, VERSION};
+use crate::records::{number, COUNTED, SHORTEST, VERSION};
 use crate::shown::{Fault, Shown};
 use crate::state::{legal_voice, read_voice, write_voice};
 use crate::voice::{Voice, CHANNELS};
@@ -36,6 +36,7 @@ pub struct Header {
     /// How many bytes follow the first four.
     pub follow: u32,
     pub version: u32,
+    /// The byte after the version, whatever it is before version 3.
     pub channels: u32,
     pub ticks: u32,
 }
@@ -160,9 +161,6 @@ impl Board {
     }
 
     fn legal(&self, module: &Module) -> bool {
-        if self.kept > UNIT_BYTES {
-            return false;
-        }
         if self.fault.number != 0 && !FAULTS.contains(&self.fault.number) {
             return false;
         }
@@ -191,10 +189,24 @@ impl Board {
     /// Whether the first fault that the board's own numbers and bytes show is the kept one. Where
     /// none is shown, bytes of a header or record that is whole are none that a board keeps.
     fn fault_legal(&self, module: &Module) -> bool {
-        let in_bytes = self.bytes_show(module);
-        match self.numbers_show(module).or(in_bytes.fault()) {
-            Some(fault) => self.kept_fault() == Some(fault),
-            None => in_bytes != Shown::Whole,
+        if let Some(fault) = self.numbers_show(module) {
+            return self.kept_fault() == Some(fault);
+        }
+        if self.kept > self.most_kept() {
+            return false;
+        }
+        match self.bytes_show(module) {
+            Shown::Fault(fault) => self.kept_fault() == Some(fault),
+            shown => shown != Shown::Whole,
+        }
+    }
+
+    /// The most bytes that may be kept: a header that has them all is open no more.
+    fn most_kept(&self) -> usize {
+        match self.bytes[VERSION] {
+            _ if !self.header_open() => UNIT_BYTES,
+            version if version < COUNTED => SHORTEST - 1,
+            _ => SHORTEST,
         }
     }
 }

@@ -29,15 +29,6 @@ pub enum Shown {
     Fault(Fault),
 }
 
-impl Shown {
-    pub fn fault(self) -> Option<Fault> {
-        match self {
-            Shown::Fault(fault) => Some(fault),
-            _ => None,
-        }
-    }
-}
-
 fn shows(number: u32, place: u64) -> Shown {
     Shown::Fault(Fault { number, place })
 }
@@ -148,8 +139,19 @@ impl Board {
         if self.header_open() {
             return None;
         }
-        let in_header = self.header_again().bytes_show(module).fault();
-        in_header.or(self.missing_record())
+        let version = self.header.version;
+        let channels = match version < COUNTED.into() {
+            true => UNCOUNTED_CHANNELS,
+            false => self.header.channels,
+        };
+        let place = VERSION as u64;
+        if !(DRIFTING.into()..=COUNTED.into()).contains(&version) {
+            Some(Fault { number: 22, place })
+        } else if channels != module.channels {
+            Some(Fault { number: 28, place })
+        } else {
+            self.missing_record()
+        }
     }
 
     pub fn missing_record(&self) -> Option<Fault> {
@@ -158,18 +160,5 @@ impl Board {
             number: 23,
             place: self.place,
         })
-    }
-
-    /// A board that keeps the bytes from which the header's numbers are, but for the tick count's,
-    /// which show nothing.
-    fn header_again(&self) -> Board {
-        // A number past a byte is neither a version nor a count, as 0 isn't.
-        let byte = |number: u32| u8::try_from(number).unwrap_or(0);
-        let mut again = Board::fresh();
-        again.bytes[..VERSION].copy_from_slice(&self.header.follow.to_be_bytes());
-        again.bytes[VERSION] = byte(self.header.version);
-        again.bytes[CHANNEL_COUNT] = byte(self.header.channels);
-        again.kept = header_bytes(again.bytes[VERSION]);
-        again
     }
 }

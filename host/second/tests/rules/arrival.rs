@@ -109,7 +109,9 @@ fn a_header_is_kept_until_its_last_byte_is_in() {
         assert_eq!(answer, fed(ACCEPTED, length as u64));
         assert_eq!(open(&board), (length as u64, 0));
         let follow = stream.len() as u32 - 4;
-        assert_eq!(board[FOLLOW..=RECORDS], [follow, version, 4, 3, 0]);
+        // The byte after the version, which is the count of channels from version 3 on.
+        let channels = stream[5].into();
+        assert_eq!(board[FOLLOW..=RECORDS], [follow, version, channels, 3, 0]);
         assert_eq!(bytes_in(&board, length), stream[..length]);
     }
 }

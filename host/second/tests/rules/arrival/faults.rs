@@ -85,9 +85,11 @@ fn a_byte_left_over_is_shown_by_itself() {
         let (_, before) = begun(&file, &stream[..17]);
         let (answer, mut board) = begun(&file, &stream);
         assert_eq!(answer, fed(fault(23, 17, 1), 18));
-        // It belongs to no record and isn't kept.
+        // It is kept as a record's first byte is.
         let mut expected = before;
         (expected[NUMBER], expected[FAULT]) = (23, 17);
+        expected[KEPT] = 1;
+        expected[BYTES] = expected[BYTES] - expected[BYTES] % 256 + u32::from(left[0]);
         assert_eq!(board, expected);
         assert_eq!(board_close(&file, &mut board), refused(23, 17));
         // Without it the stream is closed short.

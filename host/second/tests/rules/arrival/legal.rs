@@ -270,16 +270,17 @@ fn the_header_s_numbers_are_held_to_the_module() {
         is_14(&file, &board);
         repeats(&file, &with(&board, &[(NUMBER, 22), (FAULT, 4)]), 22, 4);
     }
-    let third = with(&board, &[(VERSION, 3)]);
+    let third = with(&board, &[(VERSION, 3), (CHANNELS, 4)]);
     is_legal(&file, &third);
     for channels in [0, 6, 8, 256 + 4] {
         let board = with(&third, &[(CHANNELS, channels)]);
         is_14(&file, &board);
         repeats(&file, &with(&board, &[(NUMBER, 28), (FAULT, 4)]), 28, 4);
-    } // Nine bytes of version 3, though its header is said to be in.
+    }
+    // A header that is said to be in goes on from what it holds, also with nine bytes of version 3.
     let (_, board) = begun(&file, &stream(2, 0, &[]));
-    let nine = with(&board, &[(VERSION, 3)]);
-    is_14(&file, &nine);
+    let nine = with(&board, &[(VERSION, 3), (CHANNELS, 4)]);
+    is_legal(&file, &nine);
     repeats(&file, &with(&nine, &[(NUMBER, 28), (FAULT, 4)]), 28, 4);
 }
 
@@ -340,9 +341,15 @@ fn the_first_fault_decides_whatever_is_kept_behind_it() {
     let (_, version) = begun(&file, &stream(9, 9, &[0; 90]));
     let (_, tempo) = begun(&file, &stream(2, 9, &[[0, 31], [0; 2]].concat()));
     for (board, number, place) in [(version, 22, 4), (tempo, 23, 9)] {
+        // A header of ten bytes is open no more.
+        let most = if open(&board).0 == 0 { 9 } else { 52 };
         for kept in board[KEPT]..=52 {
             let longer = with(&board, &[(KEPT, kept), (FOLLOW, 90)]);
-            repeats(&file, &longer, number, place);
+            if kept <= most {
+                repeats(&file, &longer, number, place);
+            } else {
+                is_14(&file, &longer);
+            }
             is_14(&file, &with(&longer, &[(NUMBER, 0)]));
         }
         is_14(&file, &with(&board, &[(KEPT, 53), (FOLLOW, 90)]));
