@@ -151,7 +151,7 @@ channel-back l at c rest b e =
       byte-stays (c .memory) (b .numbers .memory),
     ))
 
-voice-back : (l : List ℕ) (at : ℕ) (v : Voice) (rest : List ℕ) → KeptVoice v → drop at l ≡ voiceCells v ++ rest → voiceOf l at ≡ v
+pub voice-back : (l : List ℕ) (at : ℕ) (v : Voice) (rest : List ℕ) → KeptVoice v → drop at l ≡ voiceCells v ++ rest → voiceOf l at ≡ v
 voice-back l at v rest b e =
     simp (
       at-position l at _ e,
@@ -200,7 +200,7 @@ module _ (s : State) where
 
 -- ---- cells, written again
 -- n cells from a place on
-part-is : (l : List ℕ) (at n : ℕ) → at + n ≤ length l → take n (drop at l) ≡ each (λ i. getD l (at + i) 0) n
+pub part-is : (l : List ℕ) (at n : ℕ) → at + n ≤ length l → take n (drop at l) ≡ each (λ i. getD l (at + i) 0) n
 part-is l at n h =
     let room : n ≤ length (drop at l) = omega (arith, length-drop at l) in
     each-by _ n 0 (take n (drop at l)) (length-take-le n (drop at l) room) (λ i k. getD-take n (drop at l) i 0 k ∙ getD-drop at l i 0)
@@ -263,7 +263,7 @@ channel-again l at h k =
     tremolo : BytesFrom l (at + plainCellCount + waveCellCount)
     tremolo j m = subst (λ (n : ℕ). getD l n 0 ≤ lastByte) (omega arith) (k .waves (waveCellCount + j) (omega arith))
 
-voice-again : (l : List ℕ) (at : ℕ) → at + voiceCellCount ≤ length l → KeptVoiceCells l at → voiceCells (voiceOf l at) ≡ take voiceCellCount (drop at l)
+pub voice-again : (l : List ℕ) (at : ℕ) → at + voiceCellCount ≤ length l → KeptVoiceCells l at → voiceCells (voiceOf l at) ≡ take voiceCellCount (drop at l)
 unfolding each
 voice-again l at h k =
     rw (

@@ -31,7 +31,7 @@ const WAVE_CELLS: usize = 4;
 
 const OWN_CELLS: usize = PLAIN_CELLS + WAVE_CELLS + WAVE_CELLS;
 
-const VOICE_CELLS: usize = 6;
+pub const VOICE_CELLS: usize = 6;
 
 const CHANNEL_CELLS: usize = OWN_CELLS + VOICE_CELLS;
 
@@ -54,8 +54,8 @@ const BELOW_ZERO: u32 = 4294967280;
 const NO_SAMPLE: u8 = SAMPLE_NUMBERS as u8;
 
 // Writes a run of cells from a place on.
-fn put(run: &[u32], at: usize, cells: &mut [u32; CELLS])
-    requires { ⌜ at + length (now run) ≤ cellCount ⌝ }
+pub fn put(run: &[u32], at: usize, cells: &mut [u32])
+    requires { ⌜ at + length (now run) ≤ length (now cells) ⌝ }
     ensures { λ _. ⌜ now (cells .exit) ≡ sets (now (cells .entry)) at (now (run .entry)) ⌝ }
 {
     let mut i = 0;
@@ -137,8 +137,9 @@ fn put_own(channel: Channel, at: usize, cells: &mut [u32; CELLS])
     put_wave(channel.tremolo, at + PLAIN_CELLS + WAVE_CELLS, cells);
 }
 
-fn put_voice(voice: Voice, at: usize, cells: &mut [u32; CELLS])
-    requires { ⌜ at + voiceCellCount ≤ cellCount ⌝ }
+// Writes a voice's cells from a place on.
+pub fn put_voice(voice: Voice, at: usize, cells: &mut [u32])
+    requires { ⌜ at + voiceCellCount ≤ length (now cells) ⌝ }
     ensures { λ _. ⌜ now (cells .exit) ≡ sets (now (cells .entry)) at (voiceCells voice) ⌝ }
 {
     let run = [
@@ -256,8 +257,8 @@ fn channel_of(cells: &[u32; CELLS], at: usize) -> Channel
 }
 
 // The voice whose cells begin at a place.
-fn voice_of(cells: &[u32; CELLS], at: usize) -> Voice
-    requires { ⌜ at + voiceCellCount ≤ cellCount ⌝ }
+pub fn voice_of(cells: &[u32], at: usize) -> Voice
+    requires { ⌜ at + voiceCellCount ≤ length (now cells) ⌝ }
     ensures { λ r. ⌜ r ≡ voiceOf (now (cells .entry)) at ⌝ }
 {
     Voice {

@@ -1,5 +1,5 @@
 -- The loop: what is written, with what is left of the run, is the whole.
-use Rattle.cells.proofs.Laws.{Putting, puts}
+use Rattle.cells.specs.Puts.{Putting, puts}
 use lib.ListN.{length}
 use Prim.Native.Nat.{_-_}
 use borrow.Author.Needs.{needs}
@@ -27,4 +27,5 @@ put-spec =
     (λ c. search needs)
     (λ c. search needs)
     (λ c. search (puts, needs))
+    (λ c. search needs)
     (λ c. search (puts, needs)))
