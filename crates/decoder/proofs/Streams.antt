@@ -2,53 +2,60 @@
 -- Assumes nothing.
 use Prim.Native.Nat.{ℕ, _+_, _-_, _≤_, _<_}
 use mathlib.Core.Path.{_≡_, refl, sym, ap, _∙_}
-use mathlib.Core.Bool.{Bool, true, false, not}
+use mathlib.Core.Bool.{Bool, true, false, not, true≢false}
 use mathlib.Core.List.{List}
 use native.Mathlib.Omega.{arith}
 use lib.ListN.{length, take}
-use borrow.Author.Tests.{le-leb, lt-leb, le-ltb, lt-ltb, eq-eqb, ne-eqb, not-true, not-false}
+use borrow.Author.Tests.{le-ltb, lt-ltb, eq-eqb, ne-eqb, not-true, not-false}
 use Rattle.common.specs.Limits.{width, leastTempo, greatestTempo, between}
 use Rattle.common.specs.Bytes.{byteAt, fourAt}
 use Rattle.common.specs.Answers.{refused, accepted, refusing}
 use Rattle.common.specs.declared.Answer.{Answer}
 use Rattle.ticks.specs.declared.Command.{Command}
 use Rattle.ticks.specs.declared.Tick.{Tick}
-use Rattle.records.specs.Format.{versionPlace, leastPlace, headBytes, tempoPlace, knownVersion, versionOf, streamChannels, tickCount, firstRecord, atFirst, Read, bad, readOn, readChannels, readTick, readRecord, Decoded, refusal, ticks, withTick, decodeRecords, decodeAfter, decode}
-use Rattle.records.specs.Reads.{flag-read, flag-bad}
+use Rattle.records.specs.Format.{versionPlace, leastPlace, headBytes, tempoPlace, knownVersion, versionOf, streamChannels, tickCount, firstRecord, atFirst, Read, bad, readChannels, readTick, readRecord, Decoded, refusal, ticks, withTick, decodeRecords, decodeAfter, decode, countPlace, recordsPlace, short, read, readBy, unusedBits, readBodies}
+use Rattle.records.specs.Reads.{flag-read}
 use Rattle.decoder.specs.declared.ChannelsRead.{ChannelsRead}
 use Rattle.decoder.specs.declared.Record.{Record}
-use Rattle.decoder.specs.Answers.{asChannels, asRecord, answerOf}
+use Rattle.decoder.specs.Answers.{asChannels, unread, asRecord, answerOf}
 use Rattle.decoder.specs.Remaining.{record-read, record-unread, next-record}
 
 -- ---- a record
-abbrev badRecord : List Command → ℕ → Record
-badRecord registers at = record { ok = false; tick = record { tempo = 0; commands = registers }; next = at }
+module _ (last c : ℕ) (s : List ℕ) (at : ℕ) (registers : List Command) (m : ℕ) (p : m ≡ byteAt s at) (d : ℕ) (f : d ≡ unusedBits c m) where
+  pub mask-bad : (x : Record) → (d ≡ 0 → ⊥) → x ≡ unread registers at false → x ≡ asRecord registers at (readRecord last c s at registers)
+  unfolding asRecord readRecord readBy
+  mask-bad x h q = q ∙ rw (← p, ← f, ne-eqb d 0 h)
 
-module _ (last c : ℕ) (s : List ℕ) (at : ℕ) (registers : List Command) (n : ℕ) (l : n ≡ length s - at) where
-  pub record-short : n < headBytes → badRecord registers at ≡ asRecord registers at (readRecord last c s at registers)
-  unfolding asRecord readRecord readOn
-  record-short h = rw (lt-leb (at + headBytes) (length s) (omega arith))
+  module _ (z : d ≡ 0) (n : ℕ) (l : n ≡ length s - at) where
+    pub head-short : (x : Record) → n < headBytes → x ≡ unread registers at true → x ≡ asRecord registers at (readRecord last c s at registers)
+    unfolding asRecord readRecord readBy
+    head-short x h q = q ∙ rw (← p, ← f, eq-eqb d 0 z, lt-ltb (length s) (at + headBytes) (omega arith))
 
-  module _ (h : headBytes ≤ n) (tempo : ℕ) (e : tempo ≡ byteAt s (at + tempoPlace)) (b : Bool) (q : b ≡ between leastTempo greatestTempo tempo) where
-    pub record-tempo : not b ≡ true → badRecord registers at ≡ asRecord registers at (readRecord last c s at registers)
-    unfolding asRecord readRecord readOn
-    record-tempo f = rw (le-leb (at + headBytes) (length s) (omega arith), ← e, ← q, not-true b f)
+    module _ (h : headBytes ≤ n) (tempo : ℕ) (e : tempo ≡ byteAt s (at + tempoPlace)) (b : Bool) (q : b ≡ between leastTempo greatestTempo tempo) where
+      pub tempo-bad : (x : Record) → not b ≡ true → x ≡ unread registers at false → x ≡ asRecord registers at (readRecord last c s at registers)
+      unfolding asRecord readRecord readBodies readBy
+      tempo-bad x t y = y ∙ rw (← p, ← f, eq-eqb d 0 z, le-ltb (length s) (at + headBytes) (omega arith), ← e, ← q, not-true b t)
 
-    module _ (f : not b ≡ false) (m : ℕ) (p : m ≡ byteAt s at) (x : ChannelsRead) (g : x ≡ asChannels c registers (at + headBytes) (readChannels last s (at + headBytes) (take c registers) m)) where
-      here : readRecord last c s at registers ≡ readOn bad (readChannels last s (at + headBytes) (take c registers) m) (readTick c registers tempo)
-      unfolding readRecord
-      here = rw (le-leb (at + headBytes) (length s) (omega arith), ← e, ← q, ← p, not-false b f)
+      module _ (t : not b ≡ false) (x : ChannelsRead) (g : x ≡ asChannels c registers (at + headBytes) (readChannels last s (at + headBytes) (take c registers) m)) where
+        here : readRecord last c s at registers ≡ readBy bad short (readChannels last s (at + headBytes) (take c registers) m) (readTick c registers tempo)
+        unfolding readRecord readBodies
+        here = rw (← p, ← f, eq-eqb d 0 z, le-ltb (length s) (at + headBytes) (omega arith), ← e, ← q, not-false b t)
 
-      pub record-bad : not (x .ok) ≡ true → badRecord registers at ≡ asRecord registers at (readRecord last c s at registers)
-      unfolding asRecord asChannels readOn
-      record-bad t = rw (here, flag-bad (λ (y : ChannelsRead). y .ok) _ _ (readChannels last s (at + headBytes) (take c registers) m) x g (λ cs k. refl) (not-true (x .ok) t))
+        pub bodies-unread : (y : Record) → not (x .ok) ≡ true → y ≡ unread registers at (x .short) → y ≡ asRecord registers at (readRecord last c s at registers)
+        unfolding asRecord asChannels readBy
+        bodies-unread y u k = k ∙ rw here (go (readChannels last s (at + headBytes) (take c registers) m) g)
+          where
+            go : (r : Read (List Command)) → x ≡ asChannels c registers (at + headBytes) r → unread registers at (x .short) ≡ asRecord registers at (readBy bad short r (readTick c registers tempo))
+            go bad w = rw w
+            go short w = rw w
+            go (read cs i) w = absurd (true≢false (sym (ap (λ (v : ChannelsRead). v .ok) w) ∙ not-true (x .ok) u))
 
-      pub record-good : not (x .ok) ≡ false → record { ok = true; tick = record { tempo = tempo; commands = x .commands }; next = x .next } ≡ asRecord registers at (readRecord last c s at registers)
-      unfolding asRecord asChannels readOn
-      record-good t =
-          let w = flag-read (λ (y : ChannelsRead). y .ok) _ _ (readChannels last s (at + headBytes) (take c registers) m) x g refl (not-false (x .ok) t) in
-          ap (λ (y : ChannelsRead). record { ok = true; tick = record { tempo = tempo; commands = y .commands }; next = y .next }) (sym (w .on))
-          ∙ ap (asRecord registers at) (sym (here ∙ ap (λ (y : Read (List Command)). readOn bad y (readTick c registers tempo)) (w .is)))
+        pub record-good : not (x .ok) ≡ false → record { ok = true; short = false; tick = record { tempo = tempo; commands = x .commands }; next = x .next } ≡ asRecord registers at (readRecord last c s at registers)
+        unfolding asRecord asChannels readBy
+        record-good u =
+            let w = flag-read (λ (y : ChannelsRead). y .ok) (λ (y : ChannelsRead). y .short) _ _ _ (readChannels last s (at + headBytes) (take c registers) m) x g refl refl (not-false (x .ok) u) in
+            ap (λ (y : ChannelsRead). record { ok = true; short = false; tick = record { tempo = tempo; commands = y .commands }; next = y .next }) (sym (w .on))
+            ∙ ap (asRecord registers at) (sym (here ∙ ap (λ (y : Read (List Command)). readBy bad short y (readTick c registers tempo)) (w .is)))
 
 -- ---- the records
 answer-with : (t : Tick) (x : Decoded) → answerOf (withTick t x) ≡ answerOf x
@@ -68,7 +75,7 @@ module _ (last c : ℕ) (s : List ℕ) (count first : ℕ) where
   module _ (registers : List Command) (at left : ℕ) (w : Checked last c s count first registers at left) where
     module _ (pos : 0 < left) (r : Record) (e : r ≡ asRecord registers at (readRecord last c s at registers)) where
       pub checked-more : not (r .ok) ≡ false → Checked last c s count first (r .tick .commands) (r .next) (left - 1)
-      unfolding readOn
+      unfolding readBy
       checked-more t =
           record {
             few = w .few;
@@ -76,8 +83,8 @@ module _ (last c : ℕ) (s : List ℕ) (count first : ℕ) where
           }
 
       pub checked-bad : not (r .ok) ≡ true → (a : Answer) → a ≡ refused 23 at → a ≡ answerOf (decodeRecords last c s count first atFirst)
-      unfolding answerOf readOn
-      checked-bad t a q = q ∙ sym (w .whole ∙ rw (next-record last c s left at registers pos, record-unread registers at (readRecord last c s at registers) r e (not-true (r .ok) t)))
+      unfolding answerOf readBy
+      checked-bad t a q = q ∙ sym (w .whole ∙ rw (next-record last c s left at registers pos, record-unread registers at (readRecord last c s at registers) r e (refusal 23 at) _ (not-true (r .ok) t)))
 
     module _ (h : left ≤ 0) where
       done : left ≡ 0

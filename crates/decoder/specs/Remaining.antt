@@ -2,7 +2,7 @@
 -- Assumes nothing.
 use Prim.Native.Nat.{ℕ, zero, suc, _+_, _-_, _≤_, _<_}
 use mathlib.Core.Path.{_≡_, refl, sym, ap, _∙_}
-use mathlib.Core.Bool.{true, false, not, cond, _||_}
+use mathlib.Core.Bool.{true, false, not, cond, _||_, true≢false}
 use mathlib.Core.List.{List, [], _∷_}
 use native.Mathlib.Omega.{arith}
 use lib.ListN.{length}
@@ -14,11 +14,11 @@ use Rattle.common.specs.Answers.{refusing}
 use Rattle.ticks.specs.declared.Command.{Command}
 use Rattle.ticks.specs.declared.Tick.{Tick}
 use Rattle.ticks.specs.Legal.{LegalTick, LegalTicks, more}
-use Rattle.records.specs.Format.{versionPlace, leastPlace, knownVersion, versionOf, streamChannels, tickCount, firstRecord, atFirst, Read, bad, read, readOn, readRecord, Decoded, refusal, ticks, withTick, decodeRecords, decodeAfter, decode}
-use Rattle.records.specs.Reads.{on-either, on-good, passed, not-ticks, with-ticks, flag-read, flag-bad}
+use Rattle.records.specs.Format.{versionPlace, leastPlace, knownVersion, versionOf, streamChannels, tickCount, firstRecord, atFirst, Read, bad, read, readRecord, Decoded, refusal, ticks, withTick, decodeRecords, decodeAfter, decode, countPlace, recordsPlace, short, readBy}
+use Rattle.records.specs.Reads.{on-either, on-good, passed, not-ticks, with-ticks, flag-read, flag-bad, flag-short}
 use Rattle.records.specs.Decoded.{stream-of}
 use Rattle.decoder.specs.declared.Record.{Record}
-use Rattle.decoder.specs.Answers.{asRecord, answerOf}
+use Rattle.decoder.specs.Answers.{unread, asRecord, answerOf}
 use Rattle.ticks.specs.Commands.{soundingOf}
 
 -- ---- a record that was read
@@ -26,15 +26,29 @@ module _ (registers : List Command) (at : ℕ) (x : Read Tick) (r : Record) (e :
   pub record-read : r .ok ≡ true → x ≡ read (r .tick) (r .next)
   unfolding asRecord
   record-read t =
-      let w = flag-read (λ (y : Record). y .ok) _ _ x r e refl t in
+      let w = flag-read (λ (y : Record). y .ok) (λ (y : Record). y .short) _ _ _ x r e refl refl t in
       w .is ∙ ap (λ (y : Record). read (y .tick) (y .next)) (w .on)
 
-  pub record-unread : r .ok ≡ false → x ≡ bad
+  pub record-short : r .ok ≡ false → r .short ≡ true → x ≡ short
   unfolding asRecord
-  record-unread = flag-bad (λ (y : Record). y .ok) _ _ x r e (λ t n. refl)
+  record-short = flag-short (λ (y : Record). y .ok) (λ (y : Record). y .short) _ _ _ x r e refl (λ t n. refl)
+
+  pub record-bad : r .ok ≡ false → r .short ≡ false → x ≡ bad
+  unfolding asRecord
+  record-bad = flag-bad (λ (y : Record). y .ok) (λ (y : Record). y .short) _ _ _ x r e refl (λ t n. refl)
+
+  -- either of them is no record
+  pub record-unread : {B : Type 0} (instead : B) (rest : Tick → ℕ → B) → r .ok ≡ false → readBy instead instead x rest ≡ instead
+  unfolding asRecord readBy
+  record-unread {B} instead rest t = go x e
+    where
+      go : (y : Read Tick) → r ≡ readBy (unread registers at false) (unread registers at true) y (λ u n. record { ok = true; short = false; tick = u; next = n }) → readBy instead instead y rest ≡ instead
+      go bad q = refl
+      go short q = refl
+      go (read u n) q = absurd (true≢false (sym (ap (λ (z : Record). z .ok) q) ∙ t))
 
 pub next-record : (last c : ℕ) (s : List ℕ) (n at : ℕ) (registers : List Command) → 0 < n
-    → decodeRecords last c s n at registers ≡ readOn (refusal 23 at) (readRecord last c s at registers) (λ t p. withTick t (decodeRecords last c s (n - 1) p (t .commands)))
+    → decodeRecords last c s n at registers ≡ readBy (refusal 23 at) (refusal 23 at) (readRecord last c s at registers) (λ t p. withTick t (decodeRecords last c s (n - 1) p (t .commands)))
 unfolding decodeRecords
 next-record last c s zero at registers h = absurd (omega arith)
 next-record last c s (suc n) at registers h =
@@ -61,7 +75,7 @@ records-numbered : (last c : ℕ) (s : List ℕ) (n at : ℕ) (registers : List 
 unfolding decodeRecords
 records-numbered last c s zero at registers = either Numbered (eqb at (length s)) _ _ (λ e. tt) (λ e. omega arith)
 records-numbered last c s (suc n) at registers =
-    on-either Numbered (refusal 23 at) (readRecord last c s at registers) _ (λ e. omega arith) (λ t p e. with-numbered t (decodeRecords last c s n p (t .commands)) (records-numbered last c s n p (t .commands)))
+    on-either Numbered (refusal 23 at) (readRecord last c s at registers) _ (omega arith) (λ t p e. with-numbered t (decodeRecords last c s n p (t .commands)) (records-numbered last c s n p (t .commands)))
 
 decode-numbered : (last c : ℕ) (s : List ℕ) → Numbered (decode last c s)
 unfolding decodeAfter refusing
@@ -106,13 +120,13 @@ first-legal last soundings t ts (more l ls) = (l, ls)
 
 module _ (last c : ℕ) (s : List ℕ) (n i at : ℕ) (registers : List Command) (ts : List Tick) (w : Left last c s (n - i) at registers ts) where
   pub left-next : (r : Record) → i < n → r ≡ asRecord registers at (readRecord last c s at registers) → Next last c s (n - (i + 1)) registers ts r
-  unfolding asRecord readOn
+  unfolding asRecord readBy
   left-next r h e =
       let a = on-good (refusal 23 at) (readRecord last c s at registers) (λ t p. withTick t (decodeRecords last c s (n - i - 1) p (t .commands))) (ticks ts) (not-ticks 23 at ts)
       (sym (next-record last c s (n - i) at registers (omega arith)) ∙ w .reads) in
       let f = with-ticks (a .got) (decodeRecords last c s (n - i - 1) (a .next) (a .got .commands)) ts (a .on) in
       let l = first-legal last (soundingOf registers) (a .got) (f .others) (rw (f .all) at (w .legal)) in
-      let y : r ≡ record { ok = true; tick = a .got; next = a .next } = e ∙ ap (asRecord registers at) (a .is) in
+      let y : r ≡ record { ok = true; short = false; tick = a .got; next = a .next } = e ∙ ap (asRecord registers at) (a .is) in
       let k : n - i - 1 ≡ n - (i + 1) = omega arith in
       record { rest = f .others; is = rw y (f .all); legal = rw y (l .0); left = rw y (record { reads = rw (← k) (f .is); legal = l .1 }) }
 

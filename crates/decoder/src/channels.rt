@@ -1,11 +1,12 @@
 // A record's channels: the command of each, beside its register, by its bit of the mask.
 ghost use mathlib.Core.Path.{_≡_};
-ghost use Prim.Native.Nat.{_+_, _-_, _≤_};
+ghost use Prim.Native.Nat.{_+_, _-_, _<_, _≤_};
+ghost use mathlib.Core.Bool.{true, false};
 ghost use lib.ListN.{length, take};
 ghost use Rattle.common.specs.Limits.{width};
 ghost use Rattle.records.specs.Legal.{legalBeside};
-ghost use Rattle.records.specs.Format.{bodyBytes, held, spelled, readBody, readChannel, readChannels};
-ghost use Rattle.decoder.specs.Answers.{asChannel, asChannels};
+ghost use Rattle.records.specs.Format.{held, periodAt, startAt, spelled, readBody, readChannel, readChannels, unusedBits};
+ghost use Rattle.decoder.specs.Answers.{noChannel, asChannel, asChannels};
 use crate::ChannelRead;
 use crate::ChannelsRead;
 use common::bytes::byte;
@@ -40,15 +41,35 @@ pub fn bytes_left(stream: &[u8], at: usize) -> usize
     0
 }
 
-// The command that six bytes spell.
+// The period at a place, which shows by its second byte: 0 before that is in.
+fn period_at(stream: &[u8], at: usize) -> u16
+    ensures { λ r. ⌜ r ≡ periodAt (now (stream .entry)) at ⌝ }
+{
+    if bytes_left(stream, at) < 2 {
+        return 0;
+    }
+    word(stream, at) as u16
+}
+
+// The start at a place: it may still come before its byte is in.
+fn start_at(stream: &[u8], at: usize) -> bool
+    ensures { λ r. ⌜ r ≡ startAt (now (stream .entry)) at ⌝ }
+{
+    if at < stream.len() {
+        return byte(stream, at) == 1;
+    }
+    true
+}
+
+// The command that six bytes spell, or those of them that are in.
 fn spelled(stream: &[u8], at: usize) -> Command
-    requires { ⌜ at + bodyBytes ≤ length (now stream) ⌝ }
+    requires { ⌜ at < length (now stream) ⌝ }
     ensures { λ c. ⌜ c ≡ spelled (now (stream .entry)) at ⌝ }
 {
     let sample = byte(stream, at) as u8;
     let volume = byte(stream, at + 1) as u8;
-    let period = word(stream, at + 2) as u16;
-    let start = byte(stream, at + START_PLACE) == 1;
+    let period = period_at(stream, at + 2);
+    let start = start_at(stream, at + START_PLACE);
     let offset = byte(stream, at + 5) as u8;
     Command {
         sample,
@@ -72,25 +93,37 @@ fn held(r: Command) -> Command
     }
 }
 
+// A reading that is bad, or that runs out.
+fn no_channel(r: Command, at: usize, short: bool) -> ChannelRead
+    ensures { λ x. ⌜ x ≡ noChannel r at short ⌝ }
+{
+    ChannelRead {
+        ok: false,
+        short,
+        command: r,
+        next: at,
+    }
+}
+
 // The command of a set bit, beside its channel's register.
 fn read_body(last: u32, stream: &[u8], at: usize, r: Command) -> ChannelRead
     ensures { λ x. ⌜ x ≡ asChannel r at (readBody last (now (stream .entry)) at r) ⌝ }
 {
-    let bad = ChannelRead {
-        ok: false,
-        command: r,
-        next: at,
-    };
-    if bytes_left(stream, at) < BODY_BYTES {
-        return bad;
+    let left = bytes_left(stream, at);
+    if left == 0 {
+        return no_channel(r, at, true);
     }
     let c = spelled(stream, at);
     let good = (byte(stream, at + START_PLACE) <= 1) & legal_beside(last, r.sample as u32, c);
     if !good {
-        return bad;
+        return no_channel(r, at, false);
+    }
+    if left < BODY_BYTES {
+        return no_channel(r, at, true);
     }
     ChannelRead {
         ok: true,
+        short: false,
         command: c,
         next: at + BODY_BYTES,
     }
@@ -103,6 +136,7 @@ fn read_channel(last: u32, stream: &[u8], at: usize, r: Command, m: u32) -> Chan
     if m % 2 == 0 {
         return ChannelRead {
             ok: true,
+            short: false,
             command: held(r),
             next: at,
         };
@@ -110,7 +144,7 @@ fn read_channel(last: u32, stream: &[u8], at: usize, r: Command, m: u32) -> Chan
     read_body(last, stream, at, r)
 }
 
-// The commands of the channels in use by the mask, which has no further bit; those of the others are the registers'.
+// The commands of the channels in use by the mask; those of the others are the registers'.
 pub fn read_channels(
     last: u32,
     channels: usize,
@@ -131,6 +165,7 @@ pub fn read_channels(
         if !c.ok {
             return ChannelsRead {
                 ok: false,
+                short: c.short,
                 commands: registers,
                 next: at,
             };
@@ -141,16 +176,23 @@ pub fn read_channels(
         m = m / 2;
         k += 1;
     }
-    if m != 0 {
-        return ChannelsRead {
-            ok: false,
-            commands: registers,
-            next: at,
-        };
-    }
     ChannelsRead {
         ok: true,
+        short: false,
         commands,
         next: p,
     }
+}
+
+// The bits of a mask past those of the channels.
+pub fn unused_bits(channels: usize, mask: u32) -> u32
+    ensures { λ r. ⌜ r ≡ unusedBits channels mask ⌝ }
+{
+    let mut m = mask;
+    let mut k = channels;
+    while 0 < k {
+        m = m / 2;
+        k -= 1;
+    }
+    m
 }

@@ -5,7 +5,7 @@ ghost use Prim.Native.Nat.{_^_, _≤_, _<_};
 ghost use lib.ListN.{length};
 ghost use Rattle.common.specs.Limits.{width};
 ghost use Rattle.records.specs.Format.{leastPlace, recordsPlace, knownVersion, keeps, shift, streamChannels, tickCount, firstRecord, atFirst, readRecord, decodeRecords, decode};
-ghost use Rattle.decoder.specs.Answers.{asRecord, answerOf};
+ghost use Rattle.decoder.specs.Answers.{asRecord, answerOf, unread};
 use common::Answer;
 use common::accept;
 use common::bytes::byte;
@@ -31,26 +31,45 @@ use ticks::Tick;
 
 mod channels;
 
-// A channel's command that was read, and the place after it; where it is bad the register and the place before it.
+// A channel's command that was read, and the place after it; where it is bad or runs out (`short`) the register and the place before it.
 struct ChannelRead {
     ok: bool,
+    short: bool,
     command: Command,
     next: usize,
 }
 
-// All channels' commands that were read, and the place after them; where they are bad the registers and the place before them.
+// All channels' commands that were read, and the place after them; where they are bad or run out the registers and the place before them.
 // The commands stand first: behind a flag they would be copied from an odd byte on, by loads across two stores, which wait for both.
 struct ChannelsRead {
     commands: [Command; WIDTH],
     next: usize,
     ok: bool,
+    short: bool,
 }
 
-// The record that was read, and the place after it; where it is bad a tick of the registers with tempo 0, and the place before it.
+// The record that was read, and the place after it; where it is bad, or runs out with nothing bad in it (`short`), a tick of the registers with
+// tempo 0, and the place before it.
 pub struct Record {
     pub ok: bool,
+    pub short: bool,
     pub tick: Tick,
     pub next: usize,
+}
+
+// A record that is bad, or that runs out.
+pub fn no_record(registers: [Command; WIDTH], at: usize, short: bool) -> Record
+    ensures { λ x. ⌜ x ≡ unread registers at short ⌝ }
+{
+    Record {
+        ok: false,
+        short,
+        tick: Tick {
+            tempo: 0,
+            commands: registers,
+        },
+        next: at,
+    }
 }
 
 // The record at a place of the stream, after the registers.
@@ -64,36 +83,32 @@ pub fn read_record(
     requires { ⌜ channels ≤ width ⌝ }
     ensures { λ x. ⌜ x ≡ asRecord registers at (readRecord last channels (now (stream .entry)) at registers) ⌝ }
 {
-    let bad = Record {
-        ok: false,
-        tick: Tick {
-            tempo: 0,
-            commands: registers,
-        },
-        next: at,
-    };
+    let mask = byte(stream, at);
+    if channels::unused_bits(channels, mask) != 0 {
+        return no_record(registers, at, false);
+    }
     if channels::bytes_left(stream, at) < HEAD_BYTES {
-        return bad;
+        return no_record(registers, at, true);
     }
     let tempo = byte(stream, at + TEMPO_PLACE);
     if !is_between(LEAST_TEMPO, GREATEST_TEMPO, tempo) {
-        return bad;
+        return no_record(registers, at, false);
     }
-    let mask = byte(stream, at);
     let c = channels::read_channels(last, channels, stream, at + HEAD_BYTES, registers, mask);
     if !c.ok {
-        return bad;
+        return no_record(registers, at, c.short);
     }
     let commands = c.commands;
     Record {
         ok: true,
+        short: false,
         tick: Tick { tempo, commands },
         next: c.next,
     }
 }
 
 // By how many bytes a version's channel count moves what comes after it.
-fn shift(version: u8) -> usize
+pub fn shift(version: u8) -> usize
     ensures { λ r. ⌜ (r ≡ shift version) × (r ≤ 1) ⌝ }
 {
     if version < COUNTED_VERSION {
@@ -119,7 +134,7 @@ pub fn count_of(stream: &[u8]) -> usize
 }
 
 // How many channels a stream is for.
-fn channels_in(stream: &[u8]) -> usize
+pub fn channels_in(stream: &[u8]) -> usize
     requires { ⌜ leastPlace ≤ length (now stream) ⌝ }
     ensures { λ n. ⌜ n ≡ streamChannels (now (stream .entry)) ⌝ }
 {

@@ -2,7 +2,7 @@
 -- single record that is read (`record-legal`). Assumes nothing.
 use Prim.Native.Nat.{ℕ, zero, suc, _+_, _-_, _/_, _%_, _≤_, _<_}
 use mathlib.Core.Path.{_≡_, refl, sym, ap, _∙_}
-use mathlib.Core.Bool.{Bool, true, false, not, _&&_}
+use mathlib.Core.Bool.{Bool, true, false, not, cond, _&&_}
 use mathlib.Core.List.{List, [], _∷_, _++_}
 use native.Mathlib.Omega.{arith}
 use lib.ListN.{length, getD, take, drop, length-take, List·getD-append}
@@ -11,9 +11,9 @@ use lib.Dec.{leb, ltb, eqb}
 use borrow.Author.Tests.{ltb-true, ltb-false, eqb-true, not-false}
 use Rattle.laws.specs.Tests.{or-parts}
 use Rattle.laws.specs.Choice.{either}
-use Rattle.laws.specs.Every.{all-at, second-of}
+use Rattle.laws.specs.Every.{second-of}
 use Rattle.common.specs.Limits.{leastTempo, greatestTempo, between}
-use Rattle.common.specs.Bytes.{byteAt}
+use Rattle.common.specs.Bytes.{byteAt, fourAt}
 use Rattle.laws.specs.Ranges.{all}
 use Rattle.common.specs.LimitFacts.{between-has}
 use Rattle.common.specs.AnswerLaws.{refusing-has}
@@ -24,18 +24,19 @@ use Rattle.ticks.specs.Legal.{LegalCommand, LegalTick, length-sounding, getD-so
 use Rattle.records.specs.Legal.{legalBeside}
 use Rattle.records.specs.LegalLaws.{beside-has, Unused}
 use Rattle.records.specs.Registers.{Beside, nothing-legal, Holding, first-at, first-holding, take-holding, tick-holding}
-use Rattle.records.specs.Reads.{on-good, not-read, passed, not-ticks, with-ticks}
-use Rattle.records.specs.Format.{streamChannels, tickCount, firstRecord, headBytes, tempoPlace, bodyBytes, startPlace, atFirst, Read, bad, read, readOn, held, spelled, readBody, readChannel, readChannels, readTick, readRecord, Decoded, refusal, ticks, withTick, decodeRecords, decodeAfter, decode}
+use Rattle.records.specs.Reads.{on-good, not-read, passed, not-ticks, with-ticks, then-good, short-not-read, missed}
+use Rattle.records.specs.Format.{streamChannels, tickCount, firstRecord, headBytes, tempoPlace, bodyBytes, startPlace, atFirst, Read, bad, read, held, spelled, readBody, readChannel, readChannels, readTick, readRecord, Decoded, refusal, ticks, withTick, decodeRecords, decodeAfter, decode, versionPlace, countPlace, recordsPlace, short, andThen, goodBody, unusedBits, readBodies}
 
 -- ---- what is read is legal
 body-legal : (last : ℕ) (s : List ℕ) (at : ℕ) (r c : Command) (n : ℕ) → readBody last s at r ≡ read c n → LegalCommand last (r .sample) c
-unfolding readBody
+unfolding readBody goodBody
 body-legal last s at r c n e =
-    let tests : List Bool = leb (at + bodyBytes) (length s) ∷ leb (byteAt s (at + startPlace)) 1 ∷ legalBeside last (r .sample) (spelled s at) ∷ [] in
-    let p = passed (all tests) (read (spelled s at) (at + bodyBytes)) bad (read c n) (not-read c n) e in
-    let q : read (spelled s at) (at + bodyBytes) ≡ read c n = p .1 in
+    let start : Bool = leb (byteAt s (at + startPlace)) 1 in
+    let beside : Bool = legalBeside last (r .sample) (spelled s at) in
+    let p = passed (start && beside) (cond (ltb (length s) (at + bodyBytes)) short (read (spelled s at) (at + bodyBytes))) bad (read c n) (not-read c n) e in
+    let q = missed (ltb (length s) (at + bodyBytes)) short (read (spelled s at) (at + bodyBytes)) (read c n) (short-not-read c n) (p .1) .1 in
     let same : spelled s at ≡ c = cc in
-    rw same at (beside-has last (r .sample) (spelled s at) (all-at tests (p .0) 2))
+    rw same at (beside-has last (r .sample) (spelled s at) (second-of start beside (p .0)))
 
 channel-legal : (last : ℕ) (s : List ℕ) (at : ℕ) (r c : Command) (m n : ℕ) → LegalCommand last (r .sample) (held r) → readChannel last s at r m ≡ read c n → LegalCommand last (r .sample) c
 unfolding readChannel
@@ -64,12 +65,11 @@ channels-more last r rs cs c ds e l b = record { long = rw e (ap suc (b .long));
 channels-legal : (last : ℕ) (s : List ℕ) (rs cs : List Command) (at m n : ℕ) → Holding last rs → readChannels last s at rs m ≡ read cs n → Channels last rs cs
 unfolding readChannels
 channels-legal last s [] cs at m n l e =
-    let q = passed (eqb m 0) (read [] at) bad (read cs n) (not-read cs n) e .1 in
     let same : cs ≡ [] = cc in
     channels-none last cs same
 channels-legal last s (r ∷ rs) cs at m n l e =
-    let a = on-good bad (readChannel last s at r m) (λ c p. readOn bad (readChannels last s p rs (m / 2)) (λ ds k. read (c ∷ ds) k)) (read cs n) (not-read cs n) e in
-    let b = on-good bad (readChannels last s (a .next) rs (m / 2)) (λ ds k. read (a .got ∷ ds) k) (read cs n) (not-read cs n) (a .on) in
+    let a = then-good (readChannel last s at r m) (λ c p. andThen (readChannels last s p rs (m / 2)) (λ ds k. read (c ∷ ds) k)) cs n e in
+    let b = then-good (readChannels last s (a .next) rs (m / 2)) (λ ds k. read (a .got ∷ ds) k) cs n (a .on) in
     let q : read (a .got ∷ b .got) (b .next) ≡ read cs n = b .on in
     let same : cs ≡ a .got ∷ b .got = cc in
     channels-more last r rs cs (a .got) (b .got) same (channel-legal last s at r (a .got) m (a .next) (l 0) (a .is)) (channels-legal last s rs (b .got) (a .next) (m / 2) (b .next) (λ i. l (suc i)) (b .is))
@@ -98,13 +98,15 @@ pub record GoodTick (last c : ℕ) (registers : List Command) (t : Tick) : Type 
   pub unused : Unused c (t .commands)
 
 pub record-legal : (last c : ℕ) (s : List ℕ) (at : ℕ) (registers : List Command) (t : Tick) (n : ℕ) → Holding last registers → Unused c registers → readRecord last c s at registers ≡ read t n → GoodTick last c registers t
-unfolding readRecord
+unfolding readRecord readBodies
 record-legal last c s at registers t n l u e =
     let tempo : ℕ = byteAt s (at + tempoPlace) in
     let x : Read (List Command) = readChannels last s (at + headBytes) (take c registers) (byteAt s at) in
-    let test : Bool = leb (at + headBytes) (length s) && between leastTempo greatestTempo tempo in
-    let p = passed test (readOn bad x (readTick c registers tempo)) bad (read t n) (not-read t n) e in
-    let a = on-good bad x (readTick c registers tempo) (read t n) (not-read t n) (p .1) in
+    let y : Read Tick = cond (between leastTempo greatestTempo tempo) (andThen x (readTick c registers tempo)) bad in
+    let z = passed (eqb (unusedBits c (byteAt s at)) 0) (cond (ltb (length s) (at + headBytes)) short y) bad (read t n) (not-read t n) e in
+    let w = missed (ltb (length s) (at + headBytes)) short y (read t n) (short-not-read t n) (z .1) in
+    let p = passed (between leastTempo greatestTempo tempo) (andThen x (readTick c registers tempo)) bad (read t n) (not-read t n) (w .1) in
+    let a = then-good x (readTick c registers tempo) t n (p .1) in
     let b = channels-legal last s (take c registers) (a .got) (at + headBytes) (byteAt s at) (a .next) (take-holding last c registers l) (a .is) in
     let q : readTick c registers tempo (a .got) (a .next) ≡ read t n = a .on in
     let same : t ≡ record { tempo = tempo; commands = a .got ++ drop c registers } = cc in
@@ -112,7 +114,7 @@ record-legal last c s at registers t n l u e =
     (record {
       legal =
           record {
-            tempo = between-has leastTempo greatestTempo tempo (second-of (leb (at + headBytes) (length s)) (between leastTempo greatestTempo tempo) (p .0));
+            tempo = between-has leastTempo greatestTempo tempo (p .0);
             long = length-front registers (a .got) c (b .long) ∙ sym (length-sounding registers);
             commands = λ i h. rw (getD-sounding registers i) (all-legal last c registers (a .got) b u i (rw (length-sounding registers) at h));
           };

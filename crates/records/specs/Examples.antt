@@ -10,7 +10,7 @@ use Rattle.common.specs.Bytes.{fourBytes, fourAt}
 use Rattle.common.specs.Answers.{refusing}
 use Rattle.ticks.specs.declared.Tick.{Tick}
 use Rattle.records.specs.Legal.{legalBeside}
-use Rattle.records.specs.Format.{knownVersion, keeps, shift, streamChannels, atFirst, changed, mask, commandBytes, channelBytes, channelsBytes, recordBytes, records, countByte, streamHeader, encodeAfter, encode, readOn, held, spelled, readBody, readChannel, readChannels, readRecord, ticks, withTick, decodeRecords, decodeAfter, decode}
+use Rattle.records.specs.Format.{knownVersion, keeps, shift, streamChannels, atFirst, changed, mask, commandBytes, channelBytes, channelsBytes, recordBytes, records, countByte, streamHeader, encodeAfter, encode, held, spelled, readBody, readChannel, readChannels, readRecord, ticks, withTick, decodeRecords, decodeAfter, decode, readBy, periodAt, startAt, goodBody, unusedBits, readBodies}
 
 -- an empty first row
 abbrev pub emptyRow : Tick
@@ -46,5 +46,5 @@ pub first-streams : (decode 31 4 (emptyStream 0x01) ≡ ticks (emptyRow ∷ []))
     × (decode 31 4 (noteStream 0x01) ≡ ticks (note ∷ []))
     × (keeps (emptyStream 0x01) ≡ false)
     × (keeps (noteStream 0x01) ≡ false)
-unfolding all allFrom fourAt refusing legalBeside knownVersion keeps shift streamChannels atFirst readOn held spelled readBody readChannel readChannels readRecord withTick decodeRecords decodeAfter
+unfolding all allFrom fourAt refusing legalBeside knownVersion keeps shift streamChannels atFirst readBy held periodAt startAt spelled goodBody readBody readChannel readChannels unusedBits readBodies readRecord withTick decodeRecords decodeAfter
 first-streams = (refl, refl, refl, refl)

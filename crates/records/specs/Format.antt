@@ -2,11 +2,10 @@
 -- first c are in use: the others are never written, and stay as they are. The registers are the commands of the tick before.
 -- Version, number of channels and the last sample number are arguments. Assumes nothing.
 use Prim.Native.Nat.{ℕ, zero, suc, _+_, _-_, _*_, _/_, _%_}
-use mathlib.Core.Bool.{Bool, false, not, cond, _&&_, _||_}
+use mathlib.Core.Bool.{Bool, true, false, not, cond, _&&_, _||_}
 use mathlib.Core.List.{List, [], _∷_, _++_}
 use lib.ListN.{length, take, drop, replicate}
 use lib.Dec.{leb, ltb, eqb}
-use Rattle.laws.specs.Ranges.{all}
 use Rattle.ticks.specs.Commands.{nothing}
 use Rattle.common.specs.Limits.{width, leastTempo, greatestTempo, between}
 use Rattle.common.specs.Bytes.{byteAt, wordAt, fourAt, fourBytes, bit}
@@ -154,49 +153,64 @@ abbrev pub encode : ℕ → ℕ → List Tick → List ℕ
 encode v c ts = encodeAfter v c atFirst ts
 
 -- ---- the decoder
--- what was read and the place after it, or nothing good
+-- what was read and the place after it; or it is bad; or it runs out, with nothing bad in it so far
 pub data Read (A : Type 0) : Type 0 where
   bad : Read A
+  short : Read A
   read : A → ℕ → Read A
 
--- reading on: what comes after a good reading, or else instead
-unfoldable pub readOn : {A B : Type 0} → B → Read A → (A → ℕ → B) → B
-readOn instead bad rest = instead
-readOn instead (read x n) rest = rest x n
+-- by how a reading came out
+unfoldable pub readBy : {A B : Type 0} → B → B → Read A → (A → ℕ → B) → B
+readBy ifBad ifShort bad rest = ifBad
+readBy ifBad ifShort short rest = ifShort
+readBy ifBad ifShort (read x n) rest = rest x n
 
--- where a bad reading stays bad
+-- reading on: what comes after a good reading, or else instead
+abbrev pub readOn : {A B : Type 0} → B → Read A → (A → ℕ → B) → B
+readOn instead r rest = readBy instead instead r rest
+
+-- where a bad reading stays bad, and one that runs out stays so
 abbrev pub andThen : {A B : Type 0} → Read A → (A → ℕ → Read B) → Read B
-andThen r rest = readOn bad r rest
+andThen r rest = readBy bad short r rest
 
 -- the command of a channel whose bit is not set
 unfoldable pub held : Command → Command
 held r = record { sample = r .sample; volume = r .volume; period = r .period; start = false; offset = 0 }
 
--- the command that six bytes spell: sample, volume, period (two bytes), start, offset
+-- a period at a place, which shows by its second byte: 0 before that is in
+unfoldable pub periodAt : List ℕ → ℕ → ℕ
+periodAt s at = cond (ltb (at + 1) (length s)) (wordAt s at) 0
+
+-- a start at a place, which may still come before its byte is in
+unfoldable pub startAt : List ℕ → ℕ → Bool
+startAt s at = cond (ltb at (length s)) (eqb (byteAt s at) 1) true
+
+-- the command that six bytes spell: sample, volume, period (two bytes), start, offset. Numbers that are not in are 0
 unfoldable pub spelled : List ℕ → ℕ → Command
 spelled s at =
     record {
       sample = byteAt s at;
       volume = byteAt s (at + 1);
-      period = wordAt s (at + 2);
-      start = eqb (byteAt s (at + startPlace)) 1;
+      period = periodAt s (at + 2);
+      start = startAt s (at + startPlace);
       offset = byteAt s (at + 5);
     }
 
--- the command of a set bit, beside its register: it does not run out, start is 0 or 1, and the command is legal
+-- no byte of it is bad: start is 0 or 1, and the command is legal beside its register
+unfoldable pub goodBody : ℕ → List ℕ → ℕ → Command → Bool
+goodBody last s at r = leb (byteAt s (at + startPlace)) 1 && legalBeside last (r .sample) (spelled s at)
+
+-- the command of a set bit, beside its register
 unfoldable pub readBody : ℕ → List ℕ → ℕ → Command → Read Command
-readBody last s at r =
-    cond (all (leb (at + bodyBytes) (length s) ∷ leb (byteAt s (at + startPlace)) 1 ∷ legalBeside last (r .sample) (spelled s at) ∷ []))
-    (read (spelled s at) (at + bodyBytes))
-    bad
+readBody last s at r = cond (goodBody last s at r) (cond (ltb (length s) (at + bodyBytes)) short (read (spelled s at) (at + bodyBytes))) bad
 
 -- the command of a channel whose bit is the lowest of m
 unfoldable pub readChannel : ℕ → List ℕ → ℕ → Command → ℕ → Read Command
 readChannel last s at r m = cond (eqb (m % 2) 0) (read (held r) at) (readBody last s at r)
 
--- the commands of as many channels as there are registers, by the mask m, which has no further bit
+-- the commands of as many channels as there are registers, by the mask m
 unfoldable pub readChannels : ℕ → List ℕ → ℕ → List Command → ℕ → Read (List Command)
-readChannels last s at [] m = cond (eqb m 0) (read [] at) bad
+readChannels last s at [] m = read [] at
 readChannels last s at (r ∷ rs) m =
     andThen (readChannel last s at r m) (λ c p. andThen (readChannels last s p rs (m / 2)) (λ cs n. read (c ∷ cs) n))
 
@@ -204,11 +218,23 @@ readChannels last s at (r ∷ rs) m =
 abbrev pub readTick : ℕ → List Command → ℕ → List Command → ℕ → Read Tick
 readTick c registers tempo cs n = read (record { tempo = tempo; commands = cs ++ drop c registers }) n
 
--- a record is bad if it runs out, a number leaves its legal range, or a sample changes or an offset isn't 0 without a start
+-- the bits of a mask past those of c channels
+unfoldable pub unusedBits : ℕ → ℕ → ℕ
+unusedBits zero m = m
+unusedBits (suc c) m = unusedBits c (m / 2)
+
+-- after a mask and a tempo
+unfoldable pub readBodies : ℕ → ℕ → List ℕ → ℕ → List Command → Read Tick
+readBodies last c s at registers =
+    cond (between leastTempo greatestTempo (byteAt s (at + tempoPlace)))
+    (andThen (readChannels last s (at + headBytes) (take c registers) (byteAt s at)) (readTick c registers (byteAt s (at + tempoPlace))))
+    bad
+
+-- a number leaves its legal range, or a sample changes or an offset isn't 0 without a start: each byte is judged when it is in
 unfoldable pub readRecord : ℕ → ℕ → List ℕ → ℕ → List Command → Read Tick
 readRecord last c s at registers =
-    cond (leb (at + headBytes) (length s) && between leastTempo greatestTempo (byteAt s (at + tempoPlace)))
-    (andThen (readChannels last s (at + headBytes) (take c registers) (byteAt s at)) (readTick c registers (byteAt s (at + tempoPlace))))
+    cond (eqb (unusedBits c (byteAt s at)) 0)
+    (cond (ltb (length s) (at + headBytes)) short (readBodies last c s at registers))
     bad
 
 -- a stream's ticks, or a refusal's number and place
@@ -221,7 +247,7 @@ unfoldable pub withTick : Tick → Decoded → Decoded
 withTick t (refusal number place) = refusal number place
 withTick t (ticks ts) = ticks (t ∷ ts)
 
--- 23: a bad record, or bytes left over; that record, or first byte left
+-- 23: a bad record, one that runs out, or bytes left over; that record, or first byte left
 unfoldable pub decodeRecords : ℕ → ℕ → List ℕ → ℕ → ℕ → List Command → Decoded
 decodeRecords last c s zero at registers = cond (eqb at (length s)) (ticks []) (refusal 23 at)
 decodeRecords last c s (suc n) at registers =

@@ -9,7 +9,7 @@ use native.Mathlib.Omega.{arith}
 use lib.ListN.{length, take, drop, length-take, length-drop, length-append}
 use lib.Seq.{getD-take, ext-getD}
 use lib.Dec.{leb, ltb, eqb}
-use borrow.Author.Tests.{eq-eqb, le-leb, le-ltb, eqb-true}
+use borrow.Author.Tests.{eq-eqb, le-leb, le-ltb, eqb-true, lt-ltb}
 use Rattle.laws.specs.Ranges.{all, allFrom}
 use Rattle.common.specs.LimitFacts.{between-by}
 use Rattle.common.specs.ByteLaws.{four-back, bit-back, bit-most}
@@ -25,22 +25,18 @@ use Rattle.records.specs.LegalLaws.{beside-by, Unused, AllUnused}
 use Rattle.records.specs.Registers.{first-at, Beside}
 use Rattle.records.specs.Length.{count-long, stream-length}
 use Rattle.records.specs.Marked.{lowest, half}
-use Rattle.records.specs.Format.{versionPlace, channelsPlace, countPlace, leastPlace, headBytes, tempoPlace, bodyBytes, startPlace, countedVersion, oldChannels, knownVersion, versionOf, shift, streamChannels, countByte, atFirst, changed, mask, commandBytes, channelBytes, channelsBytes, recordBytes, records, streamHeader, encodeAfter, encode, read, readOn, held, spelled, readBody, readChannel, readChannels, readRecord, ticks, withTick, decodeRecords, decodeAfter, decode}
+use Rattle.records.specs.Format.{versionPlace, channelsPlace, countPlace, leastPlace, headBytes, tempoPlace, bodyBytes, startPlace, countedVersion, oldChannels, knownVersion, versionOf, shift, streamChannels, countByte, atFirst, changed, mask, commandBytes, channelBytes, channelsBytes, recordBytes, records, streamHeader, encodeAfter, encode, read, held, spelled, readBody, readChannel, readChannels, readRecord, ticks, withTick, decodeRecords, decodeAfter, decode, recordsPlace, readBy, periodAt, startAt, goodBody, unusedBits, readBodies}
 
 -- ---- a channel
-command-back : (s : List ℕ) (at : ℕ) (c : Command) (rest : List ℕ) → drop at s ≡ commandBytes c ++ rest → spelled s at ≡ c
-unfolding spelled commandBytes
-command-back s at c rest e =
+command-back : (s : List ℕ) (at : ℕ) (c : Command) (rest : List ℕ) → drop at s ≡ commandBytes c ++ rest → at + bodyBytes ≤ length s → spelled s at ≡ c
+unfolding spelled periodAt startAt commandBytes
+command-back s at c rest e room =
     let p = at-offset s at _ e in
     let low : at + 2 + 1 ≡ at + 3 = omega arith in
     let word : wordAt s (at + 2) ≡ c .period = rw (low, p 2, p 3) (div-add-mod' (c .period) 256) in
-    λ i. record {
-      sample = at-position s at _ e i;
-      volume = p 1 i;
-      period = word i;
-      start = (ap (λ (b : ℕ). eqb b 1) (p startPlace) ∙ bit-back (c .start)) i;
-      offset = p 5 i;
-    }
+    let start : eqb (byteAt s (at + startPlace)) 1 ≡ c .start = ap (λ (b : ℕ). eqb b 1) (p startPlace) ∙ bit-back (c .start) in
+    rw (lt-ltb (at + 2 + 1) (length s) (omega arith), lt-ltb (at + startPlace) (length s) (omega arith))
+    (λ i. record { sample = at-position s at _ e i; volume = p 1 i; period = word i; start = start i; offset = p 5 i })
 
 -- what is not written is what the registers hold
 same-all : (a b c d : Bool) → not a || (not b || (not c || d)) ≡ false → (a ≡ true) × (b ≡ true) × (c ≡ true) × (d ≡ false)
@@ -69,18 +65,18 @@ bytesBy b c = cond b (commandBytes c) []
 channel-back : (last : ℕ) (s : List ℕ) (at : ℕ) (r c : Command) (m : ℕ) (rest : List ℕ) (b : Bool) → changed r c ≡ b → LegalCommand last (r .sample) c
     → drop at s ≡ bytesBy b c ++ rest
     → readChannel last s at r (bit b + 2 * m) ≡ read c (at + length (bytesBy b c))
-unfolding readChannel readBody commandBytes all allFrom
+unfolding readChannel readBody goodBody commandBytes
 channel-back last s at r c m rest true u l e =
-    let fits : leb (at + bodyBytes) (length s) ≡ true = le-leb (at + bodyBytes) (length s) (omega (arith, position-room s at (commandBytes c ++ rest) e (omega arith))) in
+    let room : at + bodyBytes ≤ length s = omega (arith, position-room s at (commandBytes c ++ rest) e (omega arith)) in
     let flag : leb (byteAt s (at + startPlace)) 1 ≡ true = le-leb (byteAt s (at + startPlace)) 1 (omega (arith, at-offset s at (commandBytes c ++ rest) e startPlace, bit-most (c .start))) in
-    rw (lowest true m, fits, flag, command-back s at c rest e, beside-by last (r .sample) c l)
+    rw (lowest true m, flag, command-back s at c rest e room, beside-by last (r .sample) c l, le-ltb (length s) (at + bodyBytes) room)
 channel-back last s at r c m rest false u l e =
     rw (lowest false m, held-same last r c l u, add-zero)
 
 -- ---- all channels, of any number
 channels-back : (last : ℕ) (s rest : List ℕ) (rs cs : List Command) (at : ℕ) → length rs ≤ length cs → Beside last rs cs → drop at s ≡ channelsBytes rs cs ++ rest
     → readChannels last s at rs (mask rs cs) ≡ read (take (length rs) cs) (at + length (channelsBytes rs cs))
-unfolding readChannels mask channelsBytes channelBytes readOn
+unfolding readChannels mask channelsBytes channelBytes readBy
 channels-back last s rest [] cs at h l e = rw add-zero
 channels-back last s rest (r ∷ rs) [] at h l e = absurd (omega arith)
 channels-back last s rest (r ∷ rs) (c ∷ cs) at h l e =
@@ -89,6 +85,19 @@ channels-back last s rest (r ∷ rs) (c ∷ cs) at h l e =
     let e′ : drop at s ≡ bytesBy b c ++ (channelsBytes rs cs ++ rest) = e ∙ append-assoc (bytesBy b c) (channelsBytes rs cs) rest in
     let ih = channels-back last s rest rs cs (at + length (bytesBy b c)) (omega arith) (λ i k. l (suc i) (omega arith)) (drop-past s at (bytesBy b c) (channelsBytes rs cs ++ rest) e′) in
     rw (channel-back last s at r c m (channelsBytes rs cs ++ rest) b refl (l 0 (omega arith)) e′, half b m, ih, length-append, add-assoc)
+
+-- no further bit is set
+none-unused : (c : ℕ) → unusedBits c 0 ≡ 0
+unfolding unusedBits
+none-unused zero = refl
+none-unused (suc c) = none-unused c
+
+mask-unused : (c : ℕ) (rs cs : List Command) → length rs ≤ c → unusedBits c (mask rs cs) ≡ 0
+unfolding unusedBits mask
+mask-unused c [] cs h = none-unused c
+mask-unused c (r ∷ rs) [] h = none-unused c
+mask-unused zero (r ∷ rs) (d ∷ cs) h = absurd (omega arith)
+mask-unused (suc c) (r ∷ rs) (d ∷ cs) h = rw (half (changed r d) (mask rs cs)) (mask-unused c rs cs (omega arith))
 
 -- ---- a record
 -- the commands of the channels in use, and the registers of the others
@@ -101,24 +110,25 @@ in-use (suc c) (r ∷ rs) (d ∷ cs) e u w = ap (λ (ds : List Command). d ∷ d
 
 record-back : (last c : ℕ) (s rest : List ℕ) (registers : List Command) (t : Tick) (at : ℕ) → LegalTick last (soundingOf registers) t → Unused c registers → Unused c (t .commands) → drop at s ≡ recordBytes c registers t ++ rest
     → readRecord last c s at registers ≡ read t (at + length (recordBytes c registers t))
-unfolding readRecord recordBytes readOn
+unfolding readRecord readBodies recordBytes readBy
 record-back last c s rest registers t at l u w e =
     let rs : List Command = take c registers in
     let bs : List ℕ = channelsBytes rs (t .commands) in
     let long : length (t .commands) ≡ length registers = l .long ∙ length-sounding registers in
-    let fits : leb (at + headBytes) (length s) ≡ true = le-leb (at + headBytes) (length s) (omega (arith, position-room s at (recordBytes c registers t ++ rest) e (omega arith))) in
+    let fits : ltb (length s) (at + headBytes) ≡ false = le-ltb (length s) (at + headBytes) (omega (arith, position-room s at (recordBytes c registers t ++ rest) e (omega arith))) in
+    let used : unusedBits c (mask rs (t .commands)) ≡ 0 = mask-unused c rs (t .commands) (omega (arith, length-take c registers)) in
     let legal : Beside last rs (t .commands) =
     λ i h.
     let k : i < c = omega (arith, length-take c registers) in
     rw (getD-take c registers i nothing k, ← getD-sounding registers i) (l .commands i (omega (arith, length-take c registers, length-sounding registers))) in
     let cs = channels-back last s rest rs (t .commands) (at + headBytes) (omega (arith, length-take c registers)) legal (drop-past s at (mask rs (t .commands) ∷ t .tempo ∷ []) (bs ++ rest) e) in
     let n : at + headBytes + length bs ≡ at + suc (suc (length bs)) = omega arith in
-    rw (fits, at-position s at (recordBytes c registers t ++ rest) e, at-offset s at (recordBytes c registers t ++ rest) e tempoPlace, between-by leastTempo greatestTempo (t .tempo) (l .tempo), cs, n, in-use c registers (t .commands) long u w)
+    rw (at-position s at (recordBytes c registers t ++ rest) e, used, fits, at-offset s at (recordBytes c registers t ++ rest) e tempoPlace, between-by leastTempo greatestTempo (t .tempo) (l .tempo), cs, n, in-use c registers (t .commands) long u w)
 
 -- ---- the records, and the whole stream
 records-back : (last c : ℕ) (s : List ℕ) (registers : List Command) (ts : List Tick) (at : ℕ) → LegalTicks last (soundingOf registers) ts → Unused c registers → AllUnused c ts → at ≤ length s → drop at s ≡ records c registers ts
     → decodeRecords last c s (length ts) at registers ≡ ticks ts
-unfolding decodeRecords records withTick readOn
+unfolding decodeRecords records withTick readBy
 records-back last c s registers [] at l u w h e = rw (eq-eqb at (length s) (omega (arith, length-drop at s, ap length e)))
 records-back last c s registers (t ∷ ts) at (more l ls) u w h e =
     let r : List ℕ = recordBytes c registers t in

@@ -2,7 +2,7 @@
 -- Assumes nothing.
 use Prim.Native.Nat.{_-_}
 use borrow.Author.Needs.{needs}
-use Rattle.decoder.proofs.Commands.{Reading, reading-none, reading-more, reading-bad, reading-over, reading-all}
+use Rattle.decoder.proofs.Commands.{Reading, reading-none, reading-more, reading-unread, reading-all}
 use Rattle.decoder.proofs.channels.read_channels.Statement.{statement}
 use Rattle.decoder.proofs.channels.read_channels.Tie as tie
 
@@ -22,11 +22,10 @@ read-channels-spec =
     (λ c. search needs)
     (λ c. search needs)
     (λ c κs. search needs)
-    (λ c. search (reading-bad, needs))
+    (λ c. search (reading-unread, needs))
     (λ c. search needs)
     (λ c. search needs)
     (λ c. search needs)
     (λ c. search needs)
     (λ c. search (reading-more, needs))
-    (λ c. search (reading-over, needs))
     (λ c. search (reading-all, needs)))
