@@ -2,23 +2,25 @@
 
    ANSWERS
    A call answers a number, a place and a count. Number 0 is accepted; another number is a refusal, and the place says where, 0 where
-   none is named. The count is ticks played (play, play_stream, play_stream_from, and the same as floats), touches answered
-   (touch_burst), bytes written (translate) or a cause's number (why_quiet); 0 for the other calls and for every refusal. All three
-   cells are written by every call that takes them. lampthistle_refusal_text says a number in words.
+   none is named. The count is ticks played (play, play_stream, play_stream_from, and the same as floats; board_feed), touches answered
+   (touch_burst), bytes written (translate) or a cause's number (why_quiet); 0 for the other calls and for every refusal, but for a fault
+   that board_feed meets. All three cells are written by every call that takes them; board_feed's fourth is the bytes that it took.
+   lampthistle_refusal_text says a number in words.
 
    WHAT A CALLER OWES
    Every pointer is aligned for its type and good for its length for the whole call, and none that is written overlaps another. A
    length counts elements: bytes of a file, stream or room, 16-bit numbers or floats of a sound buffer, numbers of a list. A pointer that
-   comes with a length may be null where the length is 0; a state, an answer, a pair and its tick may not. Nothing else is asked: any
-   bytes and any numbers may be passed.
+   comes with a length may be null where the length is 0; a state, a board, an answer, a pair and its tick may not. Nothing else is
+   asked: any bytes and any numbers may be passed.
 
    WHAT A CALLER GETS
-   Every call returns, on any input. A refused call writes the answer and nothing else: the state and every lent buffer stay. An
-   accepted call writes what it says and leaves the rest of the buffer.
+   Every call returns, on any input. A refused call writes the answer and nothing else: the state and every lent buffer stay. For a
+   fault of a stream as it arrives alone they do not: the ticks before it stand, and the board keeps it. An accepted call writes what it
+   says and leaves the rest of the buffer.
 
    THREADS AND MEMORY
    The library has no memory of its own, allocates nothing, does no I/O and keeps no pointer: calls on separate data may run in any
-   threads at once. One state is for one thread at a time. A file or stream that is only read may be shared. A call takes at most
+   threads at once. One state or board is for one thread at a time. A file or stream that is only read may be shared. A call takes at most
    LAMPTHISTLE_STACK_BYTES of stack, whatever its input; a call that plays floats LAMPTHISTLE_FLOAT_STACK_BYTES, since it holds one
    tick's 16-bit numbers there.
 
@@ -78,7 +80,24 @@
    remainder. docs/FORMATS.md gives every byte.
    A stream is rendered piece by piece in a small buffer by play_stream_from, each piece from the tick after the last that was counted.
    Any piece can be played by itself: its frames are those of the whole play. A call first runs the ticks before its own, without
-   writing them, so that a larger buffer, with fewer calls, takes less time. */
+   writing them, so that a larger buffer, with fewer calls, takes less time.
+
+   STREAMS AS THEY ARRIVE
+   A board takes a stream in pieces of any length, as they come in, and needs no room for the whole. It is LAMPTHISTLE_BOARD_CELLS
+   plain numbers: lampthistle_board_fresh makes the first one, and it may be copied, stored and sent as a state may.
+   lampthistle_board_feed takes bytes until none is left, one shows a fault, or a tick does not fit into `out`. A record is played
+   when its last byte is in. If its tick does not fit, that byte is not taken, and that is no refusal: the answer's fourth cell says
+   how many bytes were taken, and the next call is lent the others first, with more room. LAMPTHISTLE_TICK_NUMBERS are room for any
+   one tick. However an accepted stream is cut, its frames are those that lampthistle_play_stream has.
+   A fault is answered as soon as a byte shows it: 21, 22, 28 or 23, with its place in the stream. The byte counts as taken, unless
+   it is one past the declared end. The ticks before it have been played and are counted, and their frames stand in `out`. The board
+   keeps the fault: later calls take nothing, write nothing and repeat its number and place, with count 0.
+   lampthistle_board_close tells the board that the stream has ended. Short of the declared end that is a fault (21, at the bytes
+   taken), which is kept; after it nothing changes. A last byte that waits for room has not been taken.
+   Each call judges the module first (1 to 9), then the board against the module (14), then repeats what is kept. 14 is given for
+   voices or a remainder that are not legal, more records than ticks, more bytes than declared, a kept number that is no fault of a
+   stream, and kept bytes that show another fault than the kept one or are no open header or record. A board that is refused stays
+   as it is. */
 #ifndef LAMPTHISTLE_H
 #define LAMPTHISTLE_H
 
@@ -102,6 +121,7 @@ extern "C" {
 /* The channels of a state, and the most that a module has; lampthistle_channels says how many one has. */
 #define LAMPTHISTLE_CHANNELS 8
 #define LAMPTHISTLE_STATE_CELLS 173
+#define LAMPTHISTLE_BOARD_CELLS 74
 /* The most numbers that one tick takes: 3,750 frames at tempo 32. */
 #define LAMPTHISTLE_TICK_NUMBERS 7500
 /* The sides of a frame of floats. */
@@ -120,7 +140,9 @@ enum lampthistle_answer_cell {
     LAMPTHISTLE_NUMBER,
     LAMPTHISTLE_PLACE,
     LAMPTHISTLE_COUNT,
-    LAMPTHISTLE_ANSWER_CELLS
+    LAMPTHISTLE_ANSWER_CELLS,
+    LAMPTHISTLE_TAKEN = LAMPTHISTLE_ANSWER_CELLS, /* of lampthistle_board_feed alone: the bytes taken */
+    LAMPTHISTLE_FEED_CELLS
 };
 
 /* An answer's numbers, each with its place. The smallest number wins, but 24 comes before those of a stream, and of these 28 comes after
@@ -140,7 +162,7 @@ enum lampthistle_refusal {
     /* of a translation */
     LAMPTHISTLE_REFUSED_TICKS = 11, /* 0 */
     LAMPTHISTLE_REFUSED_ROOM = 12,  /* the length needed */
-    /* of a state */
+    /* of a state or a board */
     LAMPTHISTLE_REFUSED_STATE = 14, /* 0 */
     /* of a touch */
     LAMPTHISTLE_REFUSED_PAGE = 16,     /* 0 */
@@ -176,7 +198,7 @@ static inline const char *lampthistle_refusal_text(uint64_t number) {
     case LAMPTHISTLE_REFUSED_PERIOD: return "a cell's period is neither 0 nor 113 to 856";
     case LAMPTHISTLE_REFUSED_TICKS: return "more than 65,535 ticks to translate";
     case LAMPTHISTLE_REFUSED_ROOM: return "the room is shorter than the stream; the place is the length needed";
-    case LAMPTHISTLE_REFUSED_STATE: return "the state is not legal for this module";
+    case LAMPTHISTLE_REFUSED_STATE: return "the state or board is not legal for this module";
     case LAMPTHISTLE_REFUSED_PAGE: return "the touch was made on another page";
     case LAMPTHISTLE_REFUSED_AGE: return "the touch is older than 25 ticks";
     case LAMPTHISTLE_REFUSED_POSITION: return "the touch names a position at or past the song length";
@@ -291,6 +313,49 @@ static inline size_t lampthistle_tick_floats(const uint32_t before[LAMPTHISTLE_S
     return sides * (lampthistle_tick_numbers(before, after) / 2);
 }
 
+typedef struct lampthistle_board {
+    uint32_t cell[LAMPTHISTLE_BOARD_CELLS];
+} lampthistle_board;
+
+/* A board's cells. The bytes taken are the place and the bytes kept; LOW and HIGH are a number's two halves of 32 bits. */
+enum lampthistle_board_cell {
+    LAMPTHISTLE_BOARD_PLACE_LOW, /* where the open record begins; 0 while the header is open */
+    LAMPTHISTLE_BOARD_PLACE_HIGH,
+    LAMPTHISTLE_BOARD_KEPT,        /* how many bytes of the open header or record are kept */
+    LAMPTHISTLE_BOARD_FIRST_BYTES, /* room for 52 of them, four a cell, the first lowest */
+    LAMPTHISTLE_BOARD_FOLLOW = LAMPTHISTLE_BOARD_FIRST_BYTES + 13, /* the header's numbers, when it is in: how many bytes follow */
+    LAMPTHISTLE_BOARD_VERSION,
+    LAMPTHISTLE_BOARD_STREAM_CHANNELS, /* byte 5, which is the channel count from version 3 on */
+    LAMPTHISTLE_BOARD_TICKS,
+    LAMPTHISTLE_BOARD_RECORDS,      /* how many are played */
+    LAMPTHISTLE_BOARD_FAULT_NUMBER, /* the kept fault, or 0 */
+    LAMPTHISTLE_BOARD_FAULT_LOW,    /* its place */
+    LAMPTHISTLE_BOARD_FAULT_HIGH,
+    LAMPTHISTLE_BOARD_TEMPO,       /* the last tick's; version 1 leaves it and the remainder alone */
+    LAMPTHISTLE_BOARD_REMAINDER,   /* what the ticks at this tempo left over, below the tempo */
+    LAMPTHISTLE_BOARD_FIRST_VOICE, /* the voices' cells begin here */
+    LAMPTHISTLE_VOICE_CELLS = LAMPTHISTLE_VOICE_STOPPED - LAMPTHISTLE_VOICE_SAMPLE + 1
+};
+
+/* Where a voice's cell stands in the board; channels from 0, and the cell by its name in a state, LAMPTHISTLE_VOICE_SAMPLE to
+   LAMPTHISTLE_VOICE_STOPPED. */
+#define LAMPTHISTLE_BOARD_VOICE_CELL(channel, which) \
+    (LAMPTHISTLE_BOARD_FIRST_VOICE + LAMPTHISTLE_VOICE_CELLS * (channel) + (which) - LAMPTHISTLE_VOICE_SAMPLE)
+
+/* How many numbers a call of board_feed wrote, from the board before it and after it, where its count is 1. Under version 1 the board's
+   tempo is not the tick's: that is the second byte of its record, which the board holds until the next record's second byte is taken. Then
+   this is 0. In a stream that is fed byte by byte that does not happen. */
+static inline size_t lampthistle_board_numbers(const uint32_t before[LAMPTHISTLE_BOARD_CELLS],
+                                               const uint32_t after[LAMPTHISTLE_BOARD_CELLS]) {
+    size_t tempo = after[LAMPTHISTLE_BOARD_TEMPO];
+    size_t remainder = before[LAMPTHISTLE_BOARD_TEMPO] == tempo ? before[LAMPTHISTLE_BOARD_REMAINDER] : 0;
+    if (after[LAMPTHISTLE_BOARD_VERSION] == 1) {
+        tempo = after[LAMPTHISTLE_BOARD_KEPT] < 2 ? after[LAMPTHISTLE_BOARD_FIRST_BYTES] / 256 % 256 : 0;
+        remainder = 0;
+    }
+    return tempo == 0 ? 0 : 2 * ((120000 + remainder) / tempo);
+}
+
 /* The version of the library that is linked, as LAMPTHISTLE_VERSION. */
 uint32_t lampthistle_version(void);
 
@@ -367,6 +432,22 @@ void lampthistle_play_stream_from(const uint8_t *stream, size_t stream_len, cons
 void lampthistle_play_stream_floats_from(const uint8_t *stream, size_t stream_len, const uint8_t *file, size_t file_len,
                                          uint32_t from, uint32_t sides, float *out, size_t out_len, float pair[2],
                                          uint32_t *pair_tick, uint64_t answer[LAMPTHISTLE_ANSWER_CELLS]);
+
+/* Writes the board before the first byte of any stream: nothing taken, voices stopped, tempo and remainder 0. */
+void lampthistle_board_fresh(uint32_t board[LAMPTHISTLE_BOARD_CELLS]);
+
+/* Takes bytes of a stream as it arrives, and plays each record when its last byte is in, with the samples of the module: until no byte is
+   left, one shows a fault, or a tick does not fit into `out`; then its last byte is not taken. Counts the ticks played and the bytes
+   taken. The frames lie at the beginning of `out`, and the rest of `out` stays. A fault is kept in the board, and repeated by later calls.
+   Refusals 1 to 9, 14, 21, 22, 28, 23. */
+void lampthistle_board_feed(const uint8_t *file, size_t file_len, uint32_t board[LAMPTHISTLE_BOARD_CELLS],
+                            const uint8_t *bytes, size_t bytes_len, int16_t *out, size_t out_len,
+                            uint64_t answer[LAMPTHISTLE_FEED_CELLS]);
+
+/* Tells a board that its stream has ended: 21 short of the declared end, which is kept, or the fault that is kept already. Refusals 1 to
+   9, 14, 21, 22, 28, 23. */
+void lampthistle_board_close(const uint8_t *file, size_t file_len, uint32_t board[LAMPTHISTLE_BOARD_CELLS],
+                             uint64_t answer[LAMPTHISTLE_ANSWER_CELLS]);
 
 #ifdef __cplusplus
 }

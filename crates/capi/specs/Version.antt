@@ -2,6 +2,6 @@
 -- Assumes nothing.
 use Prim.Native.Nat.{ℕ}
 
--- major times 1,000,000, plus minor times 1,000, plus patch: 0.7.0
+-- major times 1,000,000, plus minor times 1,000, plus patch: 0.8.0
 abbrev pub libraryVersion : ℕ
-libraryVersion = 7000
+libraryVersion = 8000

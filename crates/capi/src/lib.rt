@@ -11,10 +11,16 @@ ghost use Rattle.player.specs.Quiet.{whyQuietOf, whyAnswer};
 ghost use Rattle.cells.specs.Cells.{stateCells, stateOf};
 ghost use Rattle.translator.specs.Translate.{translateOf};
 ghost use Rattle.board.specs.Board.{playStreamFromOf, playStreamOf};
+ghost use Rattle.feed.specs.Feed.{freshBoard, boardFeedOf, boardCloseOf};
+ghost use Rattle.board_cells.specs.Cells.{boardCells, boardOf, feedCells, boardAfter};
 ghost use Rattle.replies.specs.Answers.{answerCells, cellsAfter};
 ghost use Rattle.replies.specs.Pairs.{pairAfter, pairTickAfter};
 ghost use Rattle.capi.specs.Floats.{floatsOn, streamFloatsOn};
 ghost use Rattle.capi.specs.Version.{libraryVersion};
+use board_cells::BOARD_CELLS;
+use board_cells::FEED_CELLS;
+use board_cells::put_board;
+use board_cells::put_feed;
 use cells::CELLS;
 use replies::ANSWER_CELLS;
 use replies::PAIR_CELLS;
@@ -25,7 +31,7 @@ use replies::put_reply;
 use replies::why_answer;
 
 // Major times 1,000,000, plus minor times 1,000, plus patch.
-const VERSION: u32 = 7000;
+const VERSION: u32 = 8000;
 
 // The version of the library that is linked.
 #[no_mangle]
@@ -260,4 +266,46 @@ pub extern "C" fn lampthistle_play_stream_floats(
     ensures sounded { λ _. ⌜ now (out .exit) ≡ streamFloatsOn (now (file .entry)) (now (stream .entry)) 0 sides (now (pair .entry)) (now («pair_tick» .entry)) (now (out .entry)) .out ⌝ }
 {
     lampthistle_play_stream_floats_from(stream, file, 0, sides, out, pair, pair_tick, answer);
+}
+
+// Writes the board before its first byte.
+#[no_mangle]
+pub extern "C" fn lampthistle_board_fresh(board: &mut [u32; BOARD_CELLS])
+    ensures { λ _. ⌜ now (board .exit) ≡ boardCells freshBoard ⌝ }
+{
+    *board = board_cells::cells_of(feed::board_fresh());
+}
+
+// Takes bytes of a stream as it arrives, and plays each record when its last byte is in: until none is left, one shows a fault, or a tick does not
+// fit into out. The answer has how many bytes were taken as its fourth number.
+#[no_mangle]
+pub extern "C" fn lampthistle_board_feed(
+    file: &[u8],
+    board: &mut [u32; BOARD_CELLS],
+    bytes: &[u8],
+    out: &mut [i16],
+    answer: &mut [u64; FEED_CELLS],
+)
+    ensures answered { λ _. ⌜ now (answer .exit) ≡ feedCells (boardFeedOf (now (file .entry)) (boardOf (now (board .entry))) (now (bytes .entry)) (now (out .entry)) .reply) ⌝ }
+    ensures stated { λ _. ⌜ now (board .exit) ≡ boardAfter (boardFeedOf (now (file .entry)) (boardOf (now (board .entry))) (now (bytes .entry)) (now (out .entry)) .reply) (now (board .entry)) ⌝ }
+    ensures sounded { λ _. ⌜ now (out .exit) ≡ boardFeedOf (now (file .entry)) (boardOf (now (board .entry))) (now (bytes .entry)) (now (out .entry)) .out ⌝ }
+{
+    let reply = feed::board_feed(file, board_cells::board_of(board), bytes, out);
+    put_board(reply, board);
+    put_feed(reply, answer);
+}
+
+// The stream's end is told.
+#[no_mangle]
+pub extern "C" fn lampthistle_board_close(
+    file: &[u8],
+    board: &mut [u32; BOARD_CELLS],
+    answer: &mut [u64; ANSWER_CELLS],
+)
+    ensures answered { λ _. ⌜ now (answer .exit) ≡ answerCells (boardCloseOf (now (file .entry)) (boardOf (now (board .entry))) .answer) ⌝ }
+    ensures stated { λ _. ⌜ now (board .exit) ≡ boardAfter (boardCloseOf (now (file .entry)) (boardOf (now (board .entry)))) (now (board .entry)) ⌝ }
+{
+    let reply = feed::board_close(file, board_cells::board_of(board));
+    put_board(reply, board);
+    put_answer(reply.answer, answer);
 }

@@ -20,18 +20,18 @@ pub turn-room : {A W S : Type 0} (m : Mechanism A W S) (w : W) (t : S) (out : Li
 unfolding turnOf
 turn-room m w t out h = rw (le-ltb (length out) (length (m .frames w t)) h)
 
-record Full {A W S : Type 0} (m : Mechanism A W S) (w : W) (t : S) (out : List A) (r : Turned A W) : Type 0 where
+pub record Full {A W S : Type 0} (m : Mechanism A W S) (w : W) (t : S) (out : List A) (r : Turned A W) : Type 0 where
   pub small : length out < length (m .frames w t)
   pub cells : r .out ≡ out
 
-record Fits {A W S : Type 0} (m : Mechanism A W S) (w : W) (t : S) (out : List A) (r : Turned A W) : Type 0 where
+pub record Fits {A W S : Type 0} (m : Mechanism A W S) (w : W) (t : S) (out : List A) (r : Turned A W) : Type 0 where
   pub room : length (m .frames w t) ≤ length out
   pub size : r .size ≡ length (m .frames w t)
   pub machine : r .machine ≡ m .after w t
   pub cells : r .out ≡ over (m .frames w t) out
 
 module _ {A W S : Type 0} (m : Mechanism A W S) (w : W) (t : S) (out : List A) (r : Turned A W) (e : r ≡ turnOf m w t out) where
-  turn-full : r .full ≡ true → Full m w t out r
+  pub turn-full : r .full ≡ true → Full m w t out r
   unfolding turnOf
   turn-full h = go (ltb (length out) (length (m .frames w t))) refl e
     where
@@ -39,7 +39,7 @@ module _ {A W S : Type 0} (m : Mechanism A W S) (w : W) (t : S) (out : List A) (
       go true l q = record { small = ltb-true (length out) (length (m .frames w t)) l; cells = ap (λ (x : Turned A W). x .out) q }
       go false l q = absurd (subst T (sym h ∙ ap (λ (x : Turned A W). x .full) q) tt)
 
-  turn-fits : r .full ≡ false → Fits m w t out r
+  pub turn-fits : r .full ≡ false → Fits m w t out r
   unfolding turnOf
   turn-fits h = go (ltb (length out) (length (m .frames w t))) refl e
     where

@@ -1,0 +1,13 @@
+pub mod Arrive
+pub mod Feed
+pub mod Calls
+pub mod Opening
+pub mod Comes
+pub mod Ahead
+pub mod Whole
+pub mod Cuts
+pub mod Ready
+pub mod Ends
+pub mod Answers
+pub mod Legal
+pub mod Examples

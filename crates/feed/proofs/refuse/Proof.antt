@@ -1,0 +1,10 @@
+-- The struct is that of `refusedBoard`.
+use borrow.Author.Needs.{needs}
+use Rattle.feed.proofs.refuse.Statement.{statement}
+use Rattle.feed.proofs.refuse.Tie as tie
+
+returns : tie.Need-returns
+returns c = cc
+
+pub refuse-spec : {M : Type 1} → statement M
+refuse-spec = tie.close (tie.spec (λ c κs. search needs) returns)

@@ -1,0 +1,9 @@
+pub mod Several
+pub mod Takings
+pub mod Feed
+pub mod Registers
+pub mod Rule
+pub mod Arriving
+pub mod Sound
+pub mod Judged
+pub mod Kept
