@@ -78,11 +78,12 @@ c-test: demo
 	out/stack out/demo.mod
 	out/stack out/eight.mod
 	out/stack out/tuned.mod
-	for part in panel board; do \
+	for part in panel board serial; do \
 	    $(CC) -std=c99 $(C_WARNINGS) -Iout examples/$$part.c out/liblampthistle.a -o out/$$part || exit 1; \
 	    $(CXX) -std=c++11 $(C_WARNINGS) -x c++ -Iout examples/$$part.c -x none out/liblampthistle.a -o out/$${part}_cc || exit 1; \
 	done
 	$(CC) -std=c99 $(C_WARNINGS) -DFIRST_CLOCK=4294967200u -Iout examples/panel.c out/liblampthistle.a -o out/panel_wrap
+	$(CC) -std=c99 $(C_WARNINGS) host/c/line.c -o out/line
 	scripts/examples out $(PLAY)
 	$(MAKE) --question lib
 	cp out/demo.mod 'out/the demo.mod'

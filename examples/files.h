@@ -1,4 +1,4 @@
-/* What both examples share: reading a file of any size, and saying why one cannot be read, written or played. */
+/* What the examples share: reading a file of any size, and saying why one cannot be read, written or played. */
 #ifndef FILES_H
 #define FILES_H
 
