@@ -69,7 +69,7 @@ host-test: c-test robust install-test
 
 # The archive and the header as C and C++ users get them, and the examples.
 c-test: demo
-	for part in judge channels play waves finetune floats burst quiet stream; do \
+	for part in judge channels play waves finetune floats burst quiet stream arrival boards; do \
 	    $(CC) -std=c99 $(C_WARNINGS) -Iout host/c/$$part.c out/liblampthistle.a -o out/$${part}_c && out/$${part}_c || exit 1; \
 	    $(CXX) -std=c++11 $(C_WARNINGS) -x c++ -Iout host/c/$$part.c -x none out/liblampthistle.a -o out/$${part}_cc \
 	        && out/$${part}_cc || exit 1; \
