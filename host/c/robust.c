@@ -1,18 +1,11 @@
 /* robust FOLDER: every call on the inputs 0.mod, 0.state, 0.stream, 1.mod, .. of a folder, to be run under a memory checker. Each input
    and each lent buffer is a block of exactly its length; a second run lends parts of larger blocks with guard cells on both sides.
-   Where a length is 0 the pointer is null. Buffers are filled with a pattern. Refused calls must change nothing, and no call may change
+   Where a length is 0 the pointer is null. Buffers are filled with a pattern. Refused calls must change nothing, but for a fault that
+   feeding a board meets, and no call may change
    its inputs or a guard cell. */
-#include "lampthistle.h"
-#include <stdio.h>
-#include <stdlib.h>
-#include <string.h>
+#include "blocks.h"
 
-enum { GUARD = 32, PATTERN = 0x5A, KINDS = 35 };
-
-typedef struct block {
-    uint8_t *at;
-    size_t bytes;
-} block;
+enum { GUARD = 32 };
 
 typedef struct input {
     block module, state, stream;
@@ -21,34 +14,8 @@ typedef struct input {
 /* The ticks from which streams are played. */
 static const uint32_t FROM[] = {0, 1, 2, 29, UINT32_MAX};
 
-static unsigned long answers[KINDS];
-static int faults;
-
-static void check(int good, const char *what, int k) {
-    if (!good) printf("input %d: %s\n", k, what);
-    faults += !good;
-}
-
-static block new_block(size_t bytes) {
-    block b = {NULL, bytes};
-    if (bytes == 0) return b;
-    b.at = (uint8_t *)malloc(bytes);
-    if (!b.at) exit(2);
-    memset(b.at, PATTERN, bytes);
-    return b;
-}
-
-/* The block without its guard cells. */
-static uint8_t *within(block b, size_t guard) {
-    return b.at ? b.at + guard : NULL;
-}
-
-/* Whether all of the block but `bytes` from `from` on holds the pattern. */
-static int kept(block b, size_t from, size_t bytes) {
-    for (size_t i = 0; i < b.bytes; i++)
-        if ((i < from || i >= from + bytes) && b.at[i] != PATTERN) return 0;
-    return 1;
-}
+/* The bytes that a board is fed in one call. */
+static const size_t PIECES[] = {1, 2, 7, 50, 100000};
 
 static int load(const char *folder, int k, const char *kind, block *to) {
     char name[4096];
@@ -65,19 +32,8 @@ static int load(const char *folder, int k, const char *kind, block *to) {
     return fclose(in) == 0;
 }
 
-static void count(const uint64_t *answer, int k) {
-    check(answer[LAMPTHISTLE_NUMBER] < KINDS, "an unknown number", k);
-    check(answer[LAMPTHISTLE_NUMBER] == 0 || answer[LAMPTHISTLE_COUNT] == 0, "a refusal with a count", k);
-    if (answer[LAMPTHISTLE_NUMBER] < KINDS) answers[answer[LAMPTHISTLE_NUMBER]]++;
-}
-
 static uint32_t from_of(int k) {
     return FROM[(size_t)k % (sizeof FROM / sizeof FROM[0])];
-}
-
-/* Fills a block with the pattern again. */
-static void refill(block b) {
-    if (b.at) memset(b.at, PATTERN, b.bytes);
 }
 
 /* The calls that write a buffer, on a part of a block. */
@@ -108,6 +64,41 @@ static void buffers(const input *in, int k, size_t numbers, size_t guard) {
     count(answer, k);
     check(kept(room, guard, answer[LAMPTHISTLE_COUNT]), "translate wrote outside", k);
     free(out.at), free(board.at), free(room.at);
+}
+
+/* Feeds a board, which is a block of its own, so many bytes in a block of theirs with an output; how many were taken. */
+static size_t feed(const input *in, int k, uint32_t *board, size_t from, size_t bytes, size_t numbers, size_t guard) {
+    uint64_t answer[LAMPTHISTLE_FEED_CELLS];
+    block piece = new_block(bytes), out = new_block(numbers * sizeof(int16_t) + 2 * guard);
+    if (bytes > 0) memcpy(piece.at, in->stream.at + from, bytes);
+    lampthistle_board_feed(in->module.at, in->module.bytes, board, piece.at, bytes, (int16_t *)(void *)within(out, guard), numbers, answer);
+    count_fed(answer, k);
+    check(answer[LAMPTHISTLE_TAKEN] <= bytes, "board_feed took more than there was", k);
+    check(kept(out, guard, answer[LAMPTHISTLE_COUNT] == 0 ? 0 : numbers * sizeof(int16_t)), "board_feed wrote outside", k);
+    check(piece.at == NULL || memcmp(piece.at, in->stream.at + from, bytes) == 0, "board_feed changed its bytes", k);
+    free(piece.at), free(out.at);
+    return (size_t)answer[LAMPTHISTLE_TAKEN];
+}
+
+/* A board that is fed the stream in pieces of one length, until it takes no more, and closed; then one of a state's numbers. */
+static void boards(const input *in, int k, size_t numbers, size_t guard) {
+    uint64_t answer[LAMPTHISTLE_ANSWER_CELLS];
+    block board = new_block(sizeof(lampthistle_board)), before = new_block(sizeof(lampthistle_board));
+    uint32_t *cells = (uint32_t *)(void *)board.at;
+    size_t at = 0, took = 1, piece = PIECES[(size_t)k % (sizeof PIECES / sizeof PIECES[0])];
+    lampthistle_board_fresh(cells);
+    for (; at < in->stream.bytes && took > 0; at += took)
+        took = feed(in, k, cells, at, in->stream.bytes - at < piece ? in->stream.bytes - at : piece, numbers, guard);
+    lampthistle_board_close(in->module.at, in->module.bytes, cells, answer);
+    count(answer, k);
+    memcpy(before.at, board.at, board.bytes);
+    if (answer[LAMPTHISTLE_NUMBER] != 0) {
+        check(feed(in, k, cells, 0, in->stream.bytes, numbers, guard) == 0, "a closed board took bytes", k);
+        check(memcmp(board.at, before.at, board.bytes) == 0, "a refused call changed the board", k);
+    }
+    memcpy(cells, in->state.at, board.bytes);
+    feed(in, k, cells, 0, in->stream.bytes, numbers, guard);
+    free(board.at), free(before.at);
 }
 
 /* The calls that write floats, on a part of a block, with the record in blocks of their own: left and right, and its tick. */
@@ -207,12 +198,6 @@ static void states(const input *in, int k) {
     free(state.at);
 }
 
-static uint32_t sum(block b) {
-    uint32_t h = 1;
-    for (size_t i = 0; i < b.bytes; i++) h = h * 31 + b.at[i];
-    return h;
-}
-
 int main(int words, char **word) {
     static const size_t LENGTHS[] = {0, 1, 939, 1920, 3001, 7500}, TOUCHES[] = {0, 1, 2, 63, 64, 65};
     int k = 0;
@@ -226,6 +211,8 @@ int main(int words, char **word) {
         burst(&in, k, touches, GUARD);
         buffers(&in, k, numbers, 0);
         buffers(&in, k, numbers, GUARD);
+        boards(&in, k, numbers, 0);
+        boards(&in, k, numbers, GUARD);
         floats(&in, k, numbers, 0);
         floats(&in, k, numbers, GUARD);
         check(before == (sum(in.module) ^ sum(in.stream) ^ sum(in.state)), "an input was changed", k);

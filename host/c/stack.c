@@ -19,7 +19,8 @@ static float floats[NUMBERS], pair[2];
 static uint32_t pair_tick;
 static uint32_t zeros[TOUCHES], clocks[TOUCHES], answers[TOUCHES];
 static lampthistle_state state;
-static uint64_t answer[LAMPTHISTLE_ANSWER_CELLS];
+static lampthistle_board board;
+static uint64_t answer[LAMPTHISTLE_FEED_CELLS];
 
 static void *nothing(void *none) {
     return none;
@@ -99,6 +100,21 @@ static void *play_stream_floats_from(void *none) {
     return none;
 }
 
+static void *board_fresh(void *none) {
+    lampthistle_board_fresh(board.cell);
+    return none;
+}
+
+static void *board_feed(void *none) {
+    lampthistle_board_feed(module, module_length, board.cell, room, stream_length, out, NUMBERS, answer);
+    return none;
+}
+
+static void *board_close(void *none) {
+    lampthistle_board_close(module, module_length, board.cell, answer);
+    return none;
+}
+
 /* The bytes of a stack that grows down which are no longer the pattern. */
 static size_t taken(void *(*call)(void *)) {
     pthread_attr_t about;
@@ -126,7 +142,8 @@ static int measure_all(void) {
         void *(*call)(void *);
     } CALLS[] = {{"fresh", fresh}, {"judge", judge}, {"channels", channels}, {"play", play}, {"why_quiet", why_quiet}, {"touch", touch},
                  {"touch_burst", touch_burst}, {"change_page", change_page}, {"translate", translate}, {"play_stream", play_stream},
-                 {"play_stream_from", play_stream_from}},
+                 {"play_stream_from", play_stream_from}, {"board_fresh", board_fresh}, {"board_feed", board_feed},
+                 {"board_close", board_close}, {"board_feed over the end", board_feed}},
       FLOATS[] = {{"play_floats", play_floats}, {"play_stream_floats", play_stream_floats},
                   {"play_stream_floats_from", play_stream_floats_from}};
     size_t most = 0, most_floats = 0, bytes, k;
@@ -158,6 +175,8 @@ int main(int words, char **word) {
     play_stream_floats(NULL);
     play_stream_from(NULL);
     play_stream_floats_from(NULL);
+    board_fresh(NULL);
+    board_feed(NULL);
     played = measure_all();
     module[1080] = 0;
     refused = measure_all();
