@@ -1,8 +1,7 @@
 /* robust FOLDER: every call on the inputs 0.mod, 0.state, 0.stream, 1.mod, .. of a folder, to be run under a memory checker. Each input
    and each lent buffer is a block of exactly its length; a second run lends parts of larger blocks with guard cells on both sides.
    Where a length is 0 the pointer is null. Buffers are filled with a pattern. Refused calls must change nothing, but for a fault that
-   feeding a board meets, and no call may change
-   its inputs or a guard cell. */
+   feeding a board meets, and no call may change its inputs or a guard cell. */
 #include "blocks.h"
 
 enum { GUARD = 32 };
