@@ -1,5 +1,5 @@
-//! The board that is fed: a whole stream in one call beside play_stream, ns a frame; in calls of 64 bytes and of one, ns a byte; and a call
-//! with no byte.
+//! The board that is fed: a whole stream in one call beside play_stream, ns a frame; in calls of 64 bytes, of one, and of a record, whole or
+//! cut, ns a byte; and a call with no byte.
 use super::modules::{busy, busy_by, large};
 use crate::say::say;
 use crate::timing::{medians, print_medians};
@@ -9,6 +9,8 @@ use std::hint::black_box;
 /// The numbers of a tick at tempo 125, which these modules keep.
 const TICK: usize = 2 * 960;
 const PIECE: usize = 64;
+/// The bytes of a header of version 3.
+const HEADER: usize = 10;
 
 pub fn print() {
     say("feeding: a whole stream in one call beside play_stream, ns a frame");
@@ -36,12 +38,31 @@ fn translated(file: &[u8], ticks: u32) -> Vec<u8> {
     stream
 }
 
-/// Feeds the stream in pieces of so many bytes; the board after it.
-fn feed(file: &[u8], stream: &[u8], piece: usize, out: &mut [i16]) -> Board {
-    let (mut board, mut at) = (Board::fresh(), 0);
-    for bytes in stream.chunks(piece) {
-        let fed = black_box(board.feed(black_box(file), bytes, &mut out[at..]));
+/// Where each piece of so many bytes ends.
+fn every(stream: &[u8], piece: usize) -> Vec<usize> {
+    let ends = (piece..stream.len()).step_by(piece);
+    ends.chain([stream.len()]).collect()
+}
+
+/// Where the pieces end that are a header and then a record each, or that reach so many bytes into the next record.
+fn by_record(stream: &[u8], into_next: usize) -> Vec<usize> {
+    let (mut ends, mut at) = (vec![], HEADER);
+    while at < stream.len() {
+        ends.push(at + into_next);
+        at += 2 + 6 * stream[at].count_ones() as usize;
+    }
+    ends.push(at);
+    ends
+}
+
+/// Feeds the stream in pieces that end there; the board after it.
+fn feed(file: &[u8], stream: &[u8], ends: &[usize], out: &mut [i16]) -> Board {
+    let (mut board, mut from, mut at) = (Board::fresh(), 0, 0);
+    for &end in ends {
+        let piece = &stream[from..end];
+        let fed = black_box(board.feed(black_box(file), piece, &mut out[at..]));
         at += TICK * fed.answer.count as usize;
+        from = end;
     }
     board
 }
@@ -55,7 +76,7 @@ fn whole(name: &str, file: &[u8], ticks: u32) {
             let _ = black_box(lampthistle::play_stream(&stream, file, &mut played));
         }),
         ("", &mut || {
-            black_box(feed(file, &stream, stream.len(), &mut fed));
+            black_box(feed(file, &stream, &[stream.len()], &mut fed));
         }),
         ("", &mut || {
             let mut board = second::board_fresh();
@@ -72,24 +93,27 @@ fn whole(name: &str, file: &[u8], ticks: u32) {
 
 fn pieces(file: &[u8], ticks: u32) {
     let stream = translated(file, ticks);
-    let mut out = [(); 3].map(|()| vec![0; TICK * ticks as usize]);
-    let [whole, by_64, by_1] = &mut out;
-    print_medians(
-        "byte",
-        stream.len() as f64,
-        &mut [
-            ("proved, one call", &mut || {
-                black_box(feed(file, &stream, stream.len(), whole));
-            }),
-            ("proved, calls of 64 bytes", &mut || {
-                black_box(feed(file, &stream, PIECE, by_64));
-            }),
-            ("proved, byte by byte", &mut || {
-                black_box(feed(file, &stream, 1, by_1));
-            }),
-        ],
-    );
-    assert!(out[0] == out[1] && out[0] == out[2], "all play the same");
+    let ways = [
+        ("proved, one call", vec![stream.len()]),
+        ("proved, calls of 64 bytes", every(&stream, PIECE)),
+        ("proved, byte by byte", every(&stream, 1)),
+        ("proved, a record a call", by_record(&stream, 0)),
+        ("proved, a record a call, each cut", by_record(&stream, 1)),
+    ];
+    let mut outs = vec![vec![0; TICK * ticks as usize]; ways.len()];
+    let stream = &stream;
+    let fed = ways.iter().zip(&mut outs).map(|((_, ends), out)| {
+        move || {
+            black_box(feed(file, stream, ends, out));
+        }
+    });
+    let mut fed: Vec<_> = fed.collect();
+    let mut works: Vec<(&str, &mut dyn FnMut())> = vec![];
+    for ((name, _), work) in ways.iter().zip(&mut fed) {
+        works.push((name, work));
+    }
+    print_medians("byte", stream.len() as f64, &mut works);
+    assert!(outs.iter().all(|out| *out == outs[0]), "all play the same");
 }
 
 /// A call that takes nothing, in the middle of a stream: the module and the board are judged.
