@@ -1,8 +1,15 @@
 //! The board that takes its stream as it arrives.
-use crate::{sys, Answer};
+use crate::{sys, tick_frames, Answer};
 
 /// The cells of a board.
 pub const BOARD_CELLS: usize = 74;
+
+/// The cells that say how long a tick was, as in lampthistle.h.
+const KEPT: usize = 2;
+const FIRST_BYTES: usize = 3;
+const VERSION: usize = 17;
+const TEMPO: usize = 24;
+const REMAINDER: usize = 25;
 
 /// How much of a stream has arrived and how its voices sound, in plain numbers.
 ///
@@ -71,4 +78,17 @@ impl Board {
         };
         Answer::from_cells(answer)
     }
+}
+
+/// How many numbers a call of `feed` wrote, from the board before it and after it, where its count is 1: as lampthistle_board_numbers of
+/// lampthistle.h. For a stream of version 1 it is 0 where the call also took the next record's second byte.
+pub fn board_numbers(before: &Board, after: &Board) -> usize {
+    let (before, after) = (before.cells(), after.cells());
+    let (tempo, remainder) = match after[VERSION] {
+        1 if after[KEPT] < 2 => (after[FIRST_BYTES] / 256 % 256, 0),
+        1 => (0, 0),
+        _ if before[TEMPO] == after[TEMPO] => (after[TEMPO], before[REMAINDER]),
+        _ => (after[TEMPO], 0),
+    };
+    2 * tick_frames(tempo, remainder)
 }

@@ -32,7 +32,7 @@ mod sys;
 mod version;
 
 pub use answer::{Answer, Refusal};
-pub use arrival::{Board, Fed, BOARD_CELLS};
+pub use arrival::{board_numbers, Board, Fed, BOARD_CELLS};
 pub use floats::{
     play_floats, play_stream_floats, play_stream_floats_from, tick_floats, Pair, MONO, STEREO,
 };

@@ -1,6 +1,6 @@
 //! The board that is fed, through its wrapper.
 use super::{accepted, empty_of, one_note, refused};
-use lampthistle::{play_stream, translate, Answer, Board, Fed, BOARD_CELLS};
+use lampthistle::{board_numbers, play_stream, translate, Answer, Board, Fed, BOARD_CELLS};
 
 /// A tick at tempo 125 has 960 frames.
 const TICK: usize = 1_920;
@@ -91,4 +91,41 @@ fn any_numbers_are_judged() {
     let taken = board.feed(&file, &stream(&file)[..10], &mut []);
     assert_eq!(taken, fed(accepted(0), 10));
     assert_eq!(board.close(&empty_of(b"6CHN", 6)), refused(14, 0));
+}
+
+/// A stream of four ticks at tempos 255, 255, 255 and 32, of any version.
+fn tempos(version: u8) -> Vec<u8> {
+    let mut stream = vec![0, 0, 0, 13, version];
+    if version == 3 {
+        (stream[3], stream[4]) = (14, 3);
+        stream.push(4);
+    }
+    stream.extend([0, 0, 0, 4, 0, 255, 0, 255, 0, 255, 0, 32]);
+    stream
+}
+
+#[test]
+fn the_board_before_and_after_a_tick_says_its_numbers() {
+    let file = one_note();
+    for (version, lengths) in [
+        (1, [940, 940, 940, 7_500]),
+        (2, [940, 942, 940, 7_500]),
+        (3, [940, 942, 940, 7_500]),
+    ] {
+        let (mut board, mut found) = (Board::fresh(), Vec::new());
+        for byte in tempos(version) {
+            let before = board;
+            let fed = board.feed(&file, &[byte], &mut [0; 7_500]);
+            assert_eq!(fed.taken, 1);
+            if fed.answer == accepted(1) {
+                found.push(board_numbers(&before, &board));
+            }
+        }
+        assert_eq!(found, lengths, "version {version}");
+        let all = lengths.iter().sum();
+        let stream = tempos(version);
+        assert_eq!(play_stream(&stream, &file, &mut vec![0; all]), accepted(4));
+        let short = play_stream(&stream, &file, &mut vec![0; all - 1]);
+        assert_eq!(short, accepted(3), "version {version}");
+    }
 }

@@ -1,8 +1,8 @@
 //! The Rust wrappers' names, words and limits.
 use crate::parse::{constants, defined, entries, file, header, refusals, words, Entry};
 use lampthistle::{
-    same_cells, Answer, Cause, CHANNELS, MONO, MOST_TICKS, MOST_TOUCHES, RATE, STATE_CELLS, STEREO,
-    TICK_NUMBERS, VERSION,
+    same_cells, Answer, Cause, BOARD_CELLS, CHANNELS, MONO, MOST_TICKS, MOST_TOUCHES, RATE,
+    STATE_CELLS, STEREO, TICK_NUMBERS, VERSION,
 };
 
 fn pairs(entries: Vec<Entry>) -> Vec<(String, u64)> {
@@ -65,6 +65,7 @@ fn limits_are_the_header_s() {
     assert_eq!(defined("RATE"), RATE.to_string());
     assert_eq!(defined("CHANNELS"), CHANNELS.to_string());
     assert_eq!(defined("STATE_CELLS"), STATE_CELLS.to_string());
+    assert_eq!(defined("BOARD_CELLS"), BOARD_CELLS.to_string());
     assert_eq!(defined("TICK_NUMBERS"), TICK_NUMBERS.to_string());
     assert_eq!(defined("MOST_TICKS"), MOST_TICKS.to_string());
     assert_eq!(defined("MOST_TOUCHES"), MOST_TOUCHES.to_string());
