@@ -103,7 +103,7 @@ fn meaning(number: u64) -> &'static str {
         refusal::PERIOD => "a cell's period is neither 0 nor 113 to 856",
         refusal::TICKS => "more than 65,535 ticks to translate",
         refusal::ROOM => "the room is shorter than the stream; the place is the length needed",
-        refusal::STATE => "the state is not legal for this module",
+        refusal::STATE => "the state or board is not legal for this module",
         refusal::PAGE => "the touch was made on another page",
         refusal::AGE => "the touch is older than 25 ticks",
         refusal::POSITION => "the touch names a position at or past the song length",
