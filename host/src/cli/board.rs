@@ -1,13 +1,16 @@
-//! The sound board's play of an accepted stream, piece by piece in a buffer of fixed size. A piece is what fits of the ticks from the next
-//! one on. docs/DECISIONS.md says what this costs.
+//! The sound board, which is fed with a stream as its bytes come, from a line or from a file at hand: in buffers of fixed size, and in time
+//! that grows as the stream does.
 use super::input::Source;
 use super::number::Number;
-use super::records::{self, Lengths, Records};
-use super::stop::Stop;
-use lampthistle::{refusal, Answer};
+use super::records::Arriving;
+use super::stop::{Refusal, Stop};
+use lampthistle::{refusal, Answer, Fed, TICK_NUMBERS};
+use std::collections::VecDeque;
+use std::io::{ErrorKind, Read};
 
-/// Bytes of a piece. The ticks before a piece are run once more for it, so that larger pieces take less time.
-const PIECE_BYTES: usize = 1 << 25;
+/// Bytes that are read at once at most, and the numbers of one call. Each call judges the module: many ticks a call take less time.
+const READ_BYTES: usize = 4_096;
+const CALL_NUMBERS: usize = 16 * TICK_NUMBERS;
 
 /// What the library says of a stream and its module, by whose name a refusal goes.
 pub fn judge(stream: &Source, file: &Source) -> Result<Answer, Stop> {
@@ -19,83 +22,171 @@ pub fn judge(stream: &Source, file: &Source) -> Result<Answer, Stop> {
     }
 }
 
-/// An accepted stream that is being played.
+/// Where a stream's bytes come from.
+pub struct Line<'a> {
+    /// Its name as messages show it.
+    pub name: &'a str,
+    pub from: Box<dyn Read + 'a>,
+    /// Whether it has no end of its own, as a device: then nothing is read after the stream's declared end.
+    pub stays_open: bool,
+}
+
+impl<'a> Line<'a> {
+    /// A stream that is at hand.
+    pub fn of(name: &'a str, stream: &'a [u8]) -> Line<'a> {
+        Line {
+            name,
+            from: Box::new(stream),
+            stays_open: false,
+        }
+    }
+}
+
+/// A stream that is being played, with the samples of an accepted module.
 pub struct Board<'a, N> {
-    stream: &'a [u8],
-    file: &'a [u8],
+    line: Line<'a>,
+    file: &'a Source,
     /// The numbers of a frame.
     sides: usize,
-    /// The next tick, the records from it on, and the lengths up to it.
-    tick: u32,
-    ahead: Records<'a>,
-    lengths: Lengths,
-    /// The piece's numbers, and its ticks that are still to be given, from this number on.
-    piece: Vec<N>,
-    left: u64,
+    fed: lampthistle::Board,
+    records: Arriving,
+    /// How far it came: the ticks that were played, and the bytes that were taken.
+    ticks: u64,
+    bytes: u64,
+    fault: Option<Answer>,
+    /// What was read, of which this and what follows is still to be taken.
+    read: Vec<u8>,
     at: usize,
+    /// What the last call played, the frames of its ticks that are still to be given, and where these begin.
+    call: Vec<i16>,
+    lengths: VecDeque<usize>,
+    given: usize,
+    tick: Vec<N>,
 }
 
 impl<'a, N: Number> Board<'a, N> {
-    pub fn new(stream: &'a [u8], file: &'a [u8], sides: usize) -> Board<'a, N> {
-        Board::in_pieces(PIECE_BYTES / N::BYTES, stream, file, sides)
-    }
-
-    /// In pieces of at most so many numbers, which take any tick of the stream.
-    fn in_pieces(numbers: usize, stream: &'a [u8], file: &'a [u8], sides: usize) -> Board<'a, N> {
+    pub fn new(line: Line<'a>, file: &'a Source, sides: usize) -> Board<'a, N> {
         Board {
-            stream,
+            line,
             file,
             sides,
-            tick: 0,
-            ahead: records::records(stream),
-            lengths: Lengths::of(records::version(stream)),
-            piece: vec![N::default(); numbers],
-            left: 0,
+            fed: lampthistle::Board::fresh(),
+            records: Arriving::new(),
+            ticks: 0,
+            bytes: 0,
+            fault: None,
+            read: Vec::with_capacity(READ_BYTES),
             at: 0,
+            call: vec![0; CALL_NUMBERS],
+            lengths: VecDeque::new(),
+            given: 0,
+            tick: Vec::with_capacity(TICK_NUMBERS),
         }
     }
 
-    /// The next tick's numbers; none after the last.
+    /// How many ticks the stream is to have, when its header is in.
+    pub fn all_ticks(&self) -> u64 {
+        self.records.ticks
+    }
+
+    /// The next tick's numbers, when its bytes are in; none after the last. A fault comes after the ticks before it.
     pub fn next(&mut self) -> Result<Option<&[N]>, Stop> {
-        let Some(record) = self.ahead.next() else {
-            return Ok(None);
-        };
-        if self.left == 0 {
-            self.play_piece()?;
+        while self.lengths.is_empty() {
+            if let Some(fault) = self.fault {
+                return Err(self.refused(fault));
+            }
+            if self.at < self.read.len() {
+                self.feed();
+            } else if self.is_complete() || self.read_more()? == 0 {
+                return self.close().map(|()| None);
+            }
         }
-        let from = self.at;
-        self.at += self.sides * self.lengths.next(record.tempo);
-        self.left -= 1;
-        self.tick += 1;
-        Ok(Some(&self.piece[from..self.at]))
+        let from = self.given;
+        self.given += 2 * self.lengths.pop_front().unwrap_or(0);
+        N::of_frames(&self.call[from..self.given], self.sides, &mut self.tick);
+        Ok(Some(&self.tick))
     }
 
-    fn play_piece(&mut self) -> Result<(), Stop> {
-        let from = self.tick;
-        let answer = N::play_stream_from(self.stream, self.file, from, self.sides, &mut self.piece);
-        if answer.count == 0 {
-            return Err(Stop::Cannot(format!(
-                "tick {from} of the stream was not played: {answer}"
-            )));
+    fn feed(&mut self) {
+        let bytes = &self.read[self.at..];
+        let Fed { answer, taken } = self.fed.feed(&self.file.bytes, bytes, &mut self.call);
+        let taken = &bytes[..taken as usize];
+        let lengths = taken.iter().filter_map(|&byte| self.records.take(byte));
+        self.lengths.extend(lengths);
+        // A record whose last byte is bad is whole, but was not played.
+        self.lengths.truncate(answer.count as usize);
+        self.given = 0;
+        self.ticks += answer.count;
+        self.bytes += taken.len() as u64;
+        self.at += taken.len();
+        self.fault = (!answer.is_accepted()).then_some(answer);
+    }
+
+    /// Waits for more bytes; 0 at the end.
+    fn read_more(&mut self) -> Result<usize, Stop> {
+        self.at = 0;
+        self.read.resize(READ_BYTES, 0);
+        let read = loop {
+            match self.line.from.read(&mut self.read) {
+                Err(e) if e.kind() == ErrorKind::Interrupted => (),
+                read => break read,
+            }
+        };
+        self.read.truncate(*read.as_ref().unwrap_or(&0));
+        read.map_err(|e| Stop::Io(self.line.name.into(), e))
+    }
+
+    /// Whether nothing more is to be awaited: closing would not come short.
+    fn is_complete(&self) -> bool {
+        let mut fed = self.fed;
+        self.line.stays_open && fed.close(&self.file.bytes).is_accepted()
+    }
+
+    fn close(&mut self) -> Result<(), Stop> {
+        let answer = self.fed.close(&self.file.bytes);
+        match answer.number {
+            0 => Ok(()),
+            _ => Err(self.refused(answer)),
         }
-        (self.left, self.at) = (answer.count, 0);
-        Ok(())
+    }
+
+    /// A refusal, with how far the stream came.
+    fn refused(&self, answer: Answer) -> Stop {
+        if let refusal::SHORT_FILE..=refusal::PERIOD = answer.number {
+            return self.file.refused(answer);
+        }
+        let count = self.ticks;
+        Stop::Refused(Refusal {
+            name: self.line.name.into(),
+            answer: Answer { count, ..answer },
+            meaning: answer.meaning(),
+            found: vec![
+                ("ticks_played", self.ticks.into()),
+                ("bytes_taken", self.bytes.into()),
+            ],
+        })
     }
 }
 
 #[cfg(test)]
 mod tests {
     use super::*;
-    use lampthistle::TICK_NUMBERS;
+    use lampthistle::{Pair, MONO, STEREO};
     use std::path::Path;
 
     /// A stored module, and the stream of its first ticks.
-    fn stored(name: &str, ticks: u32) -> (Vec<u8>, Vec<u8>) {
+    fn stored(name: &str, ticks: u32) -> (Source, Vec<u8>) {
         let root = Path::new(env!("CARGO_MANIFEST_DIR")).join("..");
-        let file = std::fs::read(root.join("crates/play_cases/data").join(name)).unwrap();
+        let bytes = std::fs::read(root.join("crates/play_cases/data").join(name)).unwrap();
         let mut stream = vec![0; 10 + 50 * ticks as usize];
-        let bytes = lampthistle::translate(&file, ticks, &mut stream).count;
-        stream.truncate(bytes as usize);
+        let length = lampthistle::translate(&bytes, ticks, &mut stream).count;
+        stream.truncate(length as usize);
+        let (name, identity) = (name.into(), None);
+        let file = Source {
+            name,
+            bytes,
+            identity,
+        };
         (file, stream)
     }
 
@@ -105,37 +196,112 @@ mod tests {
         [&follow.to_be_bytes(), &[version][..], &stream[6..]].concat()
     }
 
+    /// Gives so many bytes at a time.
+    struct Slow<'a>(&'a [u8], usize);
+
+    impl Read for Slow<'_> {
+        fn read(&mut self, to: &mut [u8]) -> std::io::Result<usize> {
+            let most = to.len().min(self.1);
+            self.0.read(&mut to[..most])
+        }
+    }
+
+    /// All numbers of a stream that comes so many bytes at a time.
+    fn played<N: Number>(file: &Source, stream: &[u8], at_once: usize, sides: u32) -> Vec<N> {
+        let line = Line {
+            name: "slow",
+            from: Box::new(Slow(stream, at_once)),
+            stays_open: false,
+        };
+        let mut board = Board::<N>::new(line, file, sides as usize);
+        let mut joined = Vec::new();
+        while let Ok(Some(numbers)) = board.next() {
+            joined.extend_from_slice(numbers);
+        }
+        assert!(board.fault.is_none() && board.bytes == stream.len() as u64);
+        joined
+    }
+
     #[test]
-    fn pieces_of_any_size_are_the_whole() {
+    fn a_stream_in_any_pieces_is_played_as_the_whole() {
         for name in ["effects", "flow", "edges"] {
             let (file, stream) = stored(name, 400);
             for stream in [older(&stream, 1), older(&stream, 2), stream] {
-                whole_in_pieces::<i16>(&file, &stream, 2);
-                whole_in_pieces::<f32>(&file, &stream, 1);
-                whole_in_pieces::<f32>(&file, &stream, 2);
+                let mut whole = vec![0; 400 * TICK_NUMBERS];
+                let answer = lampthistle::play_stream(&stream, &file.bytes, &mut whole);
+                assert_eq!(answer.count, 400);
+                whole.truncate(2 * super::super::records::frames(&stream) as usize);
+                for at_once in [1, 2, 7, 100, usize::MAX] {
+                    let numbers = played::<i16>(&file, &stream, at_once, STEREO);
+                    assert!(numbers == whole, "{name}, {at_once} at once");
+                }
             }
         }
     }
 
-    fn whole_in_pieces<N: Number>(file: &[u8], stream: &[u8], sides: usize) {
-        let numbers = sides * records::frames(stream) as usize;
-        let mut whole = vec![N::default(); numbers];
-        let answer = N::play_stream_from(stream, file, 0, sides, &mut whole);
-        assert_eq!(answer.count, 400);
-        let answer = N::play_stream_from(stream, file, 0, sides, &mut whole.clone()[1..]);
-        assert_eq!(answer.count, 399);
-        for piece in [TICK_NUMBERS, TICK_NUMBERS + 1, 20_001, 100_000, numbers] {
-            let mut board = Board::<N>::in_pieces(piece, stream, file, sides);
-            let mut joined = Vec::new();
-            while let Ok(Some(numbers)) = board.next() {
-                joined.extend_from_slice(numbers);
+    #[test]
+    fn floats_are_the_library_s_bit_for_bit() {
+        for name in ["effects", "flow", "edges"] {
+            let (file, stream) = stored(name, 400);
+            for sides in [MONO, STEREO] {
+                let mut whole = vec![0.0; 400 * TICK_NUMBERS];
+                let last = &mut Pair::default();
+                let bytes = &file.bytes;
+                let answer =
+                    lampthistle::play_stream_floats(&stream, bytes, sides, &mut whole, last);
+                assert_eq!(answer.count, 400);
+                let numbers = played::<f32>(&file, &stream, usize::MAX, sides);
+                let same = numbers.iter().zip(&whole).all(|(a, b)| a.same(*b));
+                assert!(same && numbers.len() > 100_000, "{name} for {sides}");
             }
-            let same = joined.iter().zip(&whole).all(|(a, b)| a.same(*b));
-            let version = stream[4];
-            assert!(
-                joined.len() == whole.len() && same,
-                "version {version} by {piece}"
-            );
+        }
+    }
+
+    /// A line that must not be read again after the bytes.
+    struct Open<'a>(&'a [u8]);
+
+    impl Read for Open<'_> {
+        fn read(&mut self, to: &mut [u8]) -> std::io::Result<usize> {
+            assert!(!self.0.is_empty(), "it would wait forever");
+            self.0.read(to)
+        }
+    }
+
+    #[test]
+    fn a_line_that_stays_open_is_read_to_the_declared_end() {
+        let (file, stream) = stored("flow", 40);
+        let (over, mut bad) = ([&stream[..], &[0]].concat(), stream.clone());
+        bad[4] = 9;
+        for (stream, ticks, fault) in [(&stream, 40, 0), (&over, 40, 21), (&bad, 0, 22)] {
+            let line = Line {
+                name: "open",
+                from: Box::new(Open(stream)),
+                stays_open: true,
+            };
+            let mut board = Board::<i16>::new(line, &file, 2);
+            while let Ok(Some(_)) = board.next() {}
+            let number = board.fault.map_or(0, |fault| fault.number);
+            assert_eq!((board.ticks, number), (ticks, fault));
+        }
+    }
+
+    /// Every 16-bit number, and sums up to the ends of their range.
+    #[test]
+    fn floats_of_all_numbers_are_exact() {
+        let mut floats = Vec::new();
+        for left in i16::MIN..=i16::MAX {
+            for right in [i16::MIN, -1, 0, left.wrapping_neg(), i16::MAX] {
+                let [l, r] = [left, right].map(f64::from);
+                f32::of_frames(&[left, right], 2, &mut floats);
+                assert!(floats.iter().all(|&n| n != 0.0 || n.to_bits() == 0));
+                assert_eq!(
+                    [f64::from(floats[0]), f64::from(floats[1])],
+                    [l, r].map(|n| n / 32_768.0)
+                );
+                f32::of_frames(&[left, right], 1, &mut floats);
+                assert!(floats[0] != 0.0 || floats[0].to_bits() == 0);
+                assert_eq!(f64::from(floats[0]), (l + r) / 65_536.0);
+            }
         }
     }
 }

@@ -1,5 +1,5 @@
 //! compare FILE: the player, number by number, with the sound board, a given stream or a recording.
-use super::board::{self, Board};
+use super::board::{self, Board, Line};
 use super::course::{course, MOST_TICKS};
 use super::input::{self, Source};
 use super::json::{self, Fields, Value};
@@ -50,7 +50,7 @@ const TICKS: u32 = 1_000;
 /// What the player is compared with.
 enum Other<'a, N> {
     /// A stream of so many ticks.
-    Board(Board<'a, N>, u64),
+    Board(Box<Board<'a, N>>, u64),
     Recording(Recording<N>),
 }
 
@@ -204,8 +204,8 @@ fn with_board<N: Number>(
     (name, stream): (&str, &[u8]),
     length: &Length,
 ) -> Result<bool, Stop> {
-    let board = Board::<N>::new(stream, &file.bytes, kind.sides());
-    let other = Other::Board(board, records::ticks(stream));
+    let board = Board::<N>::new(Line::of(name, stream), file, kind.sides());
+    let other = Other::Board(Box::new(board), records::ticks(stream));
     let outcome = compare(file, kind, other, length.asked())?;
     tell(words, file, name, length, &outcome)
 }

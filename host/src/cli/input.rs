@@ -4,8 +4,9 @@ use super::place;
 use super::stop::{Refusal, Stop};
 use lampthistle::Answer;
 use std::ffi::OsStr;
-use std::fs::{File, Metadata};
+use std::fs::{self, File, Metadata};
 use std::io::{self, Cursor, Read};
+use std::os::fd::AsFd;
 use std::os::unix::fs::MetadataExt;
 
 /// Bytes read at most: the longest stream's, and fewer of what may have no end, such as /dev/zero.
@@ -89,6 +90,16 @@ pub fn module(name: &OsStr) -> Result<Source, Stop> {
     let mut file = open(name)?;
     let bytes = file.take(MODULE_BYTES)?;
     Ok(file.source(bytes))
+}
+
+/// What an input's name finds. A pipe is not opened, which would wait for its other end.
+pub fn about(name: &OsStr) -> Result<Metadata, Stop> {
+    let about = match name.to_str() {
+        Some("-") => io::stdin().as_fd().try_clone_to_owned(),
+        _ => return fs::metadata(name).map_err(|e| Stop::Io(shown(name), e)),
+    };
+    let about = about.and_then(|input| File::from(input).metadata());
+    about.map_err(|e| Stop::Io("standard input".into(), e))
 }
 
 /// A file that is open: standard input is named -.

@@ -65,7 +65,7 @@ lampthistle: plays ProTracker modules of four, six or eight channels (M.K., 4CHN
   lampthistle info FILE                            title, channels, patterns, samples, and how long it plays
   lampthistle play FILE --out OUT                  renders the module to OUT (.wav, .raw or -)
   lampthistle translate FILE --ticks N --out OUT   writes the tick stream of the first N ticks
-  lampthistle board STREAM FILE --out OUT          plays a tick stream with the module's samples
+  lampthistle board STREAM FILE --out OUT          plays a tick stream with the module's samples, also while it arrives
   lampthistle trace FILE                           a line a tick of a module or a stream
   lampthistle why FILE                             why each channel is quiet, or that it sounds
   lampthistle replay FILE SCRIPT                   runs a trial again, records it, or checks its record

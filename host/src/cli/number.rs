@@ -63,14 +63,8 @@ pub trait Number: Copy + Default {
     /// Plays ticks for so many sides.
     fn play(file: &[u8], state: &mut State, ticks: u32, sides: usize, out: &mut [Self]) -> Answer;
 
-    /// Plays a stream from a tick on, for so many sides.
-    fn play_stream_from(
-        stream: &[u8],
-        file: &[u8],
-        from: u32,
-        sides: usize,
-        out: &mut [Self],
-    ) -> Answer;
+    /// The same frames of whole numbers, for so many sides, in place of what is there.
+    fn of_frames(frames: &[i16], sides: usize, to: &mut Vec<Self>);
 
     /// Adds the bytes of a file, low byte first.
     fn put(self, bytes: &mut Vec<u8>);
@@ -91,14 +85,9 @@ impl Number for i16 {
         lampthistle::play(file, state, ticks, out)
     }
 
-    fn play_stream_from(
-        stream: &[u8],
-        file: &[u8],
-        from: u32,
-        _sides: usize,
-        out: &mut [i16],
-    ) -> Answer {
-        lampthistle::play_stream_from(stream, file, from, out)
+    fn of_frames(frames: &[i16], _sides: usize, to: &mut Vec<i16>) {
+        to.clear();
+        to.extend_from_slice(frames);
     }
 
     fn put(self, bytes: &mut Vec<u8>) {
@@ -125,15 +114,16 @@ impl Number for f32 {
         lampthistle::play_floats(file, state, ticks, sides as u32, out, &mut Pair::default())
     }
 
-    fn play_stream_from(
-        stream: &[u8],
-        file: &[u8],
-        from: u32,
-        sides: usize,
-        out: &mut [f32],
-    ) -> Answer {
-        let mut last = Pair::default();
-        lampthistle::play_stream_floats_from(stream, file, from, sides as u32, out, &mut last)
+    /// By the library's rule for floats, under which every one is exact.
+    fn of_frames(frames: &[i16], sides: usize, to: &mut Vec<f32>) {
+        to.clear();
+        match sides {
+            1 => to.extend(frames.chunks_exact(2).map(|frame| {
+                let sum = i32::from(frame[0]) + i32::from(frame[1]);
+                sum as f32 / 65_536.0
+            })),
+            _ => to.extend(frames.iter().map(|&number| f32::from(number) / 32_768.0)),
+        }
     }
 
     fn put(self, bytes: &mut Vec<u8>) {

@@ -1,4 +1,4 @@
-//! The records of a tick stream that the library wrote or accepted, read by offset.
+//! The records of a tick stream that the library wrote or accepted, read by offset, or as they arrive.
 use lampthistle::{tick_frames, tick_rest, CHANNELS};
 
 /// Where the version is, and in a version that has one the channel count; the bytes of the count of ticks and of one channel's command.
@@ -6,6 +6,8 @@ const VERSION: usize = 4;
 const CHANNEL_COUNT: usize = 5;
 const TICKS_BYTES: usize = 4;
 const COMMAND_BYTES: usize = 6;
+/// The bytes of a record's mask and tempo.
+const TEMPO_BYTES: usize = 2;
 /// The version whose ticks leave no remainder, and the first that has a channel count; the channels of those before it.
 const DRIFTING: u8 = 1;
 const COUNTED: u8 = 3;
@@ -44,11 +46,15 @@ fn ticks_place(stream: &[u8]) -> usize {
     CHANNEL_COUNT + usize::from(version(stream) >= COUNTED)
 }
 
+/// Where the first record begins.
+fn header_bytes(stream: &[u8]) -> usize {
+    ticks_place(stream) + TICKS_BYTES
+}
+
 /// All records of a stream.
 pub fn records(stream: &[u8]) -> Records<'_> {
-    let start = ticks_place(stream) + TICKS_BYTES;
     Records {
-        rest: stream.get(start..).unwrap_or(&[]),
+        rest: stream.get(header_bytes(stream)..).unwrap_or(&[]),
     }
 }
 
@@ -117,6 +123,48 @@ impl Lengths {
             _ => tick_rest(tempo, carried),
         };
         tick_frames(tempo, carried)
+    }
+}
+
+/// The lengths of a stream's ticks as its bytes come.
+pub struct Arriving {
+    /// How many ticks the stream is to have, when its header is in.
+    pub ticks: u64,
+    /// The bytes of the header or record that is open.
+    open: Vec<u8>,
+    /// None while the header is open.
+    lengths: Option<Lengths>,
+}
+
+impl Arriving {
+    pub fn new() -> Arriving {
+        Arriving {
+            ticks: 0,
+            open: Vec::new(),
+            lengths: None,
+        }
+    }
+
+    /// The frames of the tick whose record this byte makes whole.
+    pub fn take(&mut self, byte: u8) -> Option<usize> {
+        self.open.push(byte);
+        let needed = match self.lengths {
+            None => header_bytes(&self.open),
+            Some(_) => TEMPO_BYTES + COMMAND_BYTES * self.open[0].count_ones() as usize,
+        };
+        if self.open.len() < needed {
+            return None;
+        }
+        let frames = match &mut self.lengths {
+            Some(lengths) => Some(lengths.next(self.open[1].into())),
+            None => {
+                self.ticks = ticks(&self.open);
+                self.lengths = Some(Lengths::of(version(&self.open)));
+                None
+            }
+        };
+        self.open.clear();
+        frames
     }
 }
 

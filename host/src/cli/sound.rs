@@ -67,10 +67,13 @@ pub fn check_room(
     if most <= room || exact(room)? <= room {
         return Ok(());
     }
-    let name = shown(name);
-    Err(Stop::Cannot(format!(
+    Err(too_long(&shown(name), room))
+}
+
+fn too_long(name: &str, room: u64) -> Stop {
+    Stop::Cannot(format!(
         "{name}: a .wav file holds {room} frames at most, and these are more; name a .raw file"
-    )))
+    ))
 }
 
 /// A sound file that is being written.
@@ -79,6 +82,10 @@ pub struct Sound {
     kind: Kind,
     to: BufWriter<Target>,
     bytes: u64,
+    /// The bytes of sound that it holds at most.
+    room: u64,
+    /// Whether all numbers are handed on as soon as they are written, to somebody who listens.
+    at_once: bool,
 }
 
 impl Sound {
@@ -90,6 +97,11 @@ impl Sound {
             kind,
             to: BufWriter::with_capacity(1 << 16, target),
             bytes: 0,
+            room: match format {
+                Format::Wav => wav_room(kind) * kind.frame_bytes() as u64,
+                Format::Raw => u64::MAX,
+            },
+            at_once: false,
         };
         if format == Format::Wav {
             sound.put(&wav_start(kind, None))?;
@@ -97,15 +109,29 @@ impl Sound {
         Ok(sound)
     }
 
+    /// The same file, which hands on all numbers at once.
+    pub fn at_once(self) -> Sound {
+        Sound {
+            at_once: true,
+            ..self
+        }
+    }
+
     fn put(&mut self, bytes: &[u8]) -> Result<(), Stop> {
-        let done = self.to.write_all(bytes);
+        let mut done = self.to.write_all(bytes);
+        if self.at_once {
+            done = done.and_then(|()| self.to.flush());
+        }
         done.map_err(|e| Stop::Io(self.to.get_ref().name.clone(), e))
     }
 
-    /// Numbers of the sound's kind.
+    /// Numbers of the sound's kind. It stops before it holds too many.
     pub fn write<N: Number>(&mut self, numbers: &[N]) -> Result<(), Stop> {
         let mut bytes = Vec::with_capacity(N::BYTES * numbers.len());
         numbers.iter().for_each(|number| number.put(&mut bytes));
+        if bytes.len() as u64 > self.room - self.bytes {
+            return Err(too_long(&self.to.get_ref().name, wav_room(self.kind)));
+        }
         self.bytes += bytes.len() as u64;
         self.put(&bytes)
     }
@@ -174,4 +200,27 @@ fn put_part(parts: &mut Vec<u8>, name: &[u8; 4], bytes: &[u8]) {
     parts.extend_from_slice(name);
     parts.extend_from_slice(&(bytes.len() as u32).to_le_bytes());
     parts.extend_from_slice(bytes);
+}
+
+#[cfg(test)]
+mod tests {
+    use super::*;
+
+    /// A stream that arrives says no length before: the file stops it, and what fits stays.
+    #[test]
+    fn a_file_that_is_full_takes_no_more() {
+        let name = format!("lampthistle-full-{}.wav", std::process::id());
+        let path = std::env::temp_dir().join(name);
+        let mut sound = Sound::create(path.as_os_str(), Kind::Whole, &[])
+            .ok()
+            .unwrap();
+        sound.room = 8;
+        assert!(sound.write::<i16>(&[1, 2]).is_ok());
+        let stopped = sound.write::<i16>(&[3, 4, 5, 6]).unwrap_err();
+        assert!(stopped.reason().contains("a .wav file holds"));
+        assert!(sound.finish().is_ok());
+        let bytes = std::fs::read(&path).unwrap();
+        assert_eq!(bytes[bytes.len() - 8..], [4, 0, 0, 0, 1, 0, 2, 0]);
+        std::fs::remove_file(path).unwrap();
+    }
 }

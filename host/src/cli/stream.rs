@@ -1,5 +1,5 @@
 //! translate FILE: writes a module's tick stream. board STREAM FILE: plays one.
-use super::board::{self, Board};
+use super::board::{self, Board, Line};
 use super::input::{self, Source};
 use super::length::ticks_asked;
 use super::number::{Kind, Number, FLOAT, MONO_FLAG};
@@ -12,6 +12,8 @@ use super::stop::Stop;
 use super::words::Words;
 use super::Command;
 use lampthistle::refusal;
+use std::ffi::OsStr;
+use std::os::unix::fs::FileTypeExt;
 
 pub const TRANSLATE: Command = Command {
     name: "translate",
@@ -41,13 +43,18 @@ lampthistle board STREAM FILE [--float [--mono]] --out OUT [--plain]
 
 Plays a tick stream of version 1, 2 or 3 as the sound board does, with the samples of the module FILE, which has as many channels as the
 stream is for: versions 1 and 2 are for four. OUT as in play: .wav, .raw or -.
+A STREAM that is a regular file is judged before anything is written. From a pipe, a named pipe or a device it is played while it arrives,
+each tick when its last byte is in: the first fault ends it, with how far it came, and OUT keeps the ticks before that. A pipe is read to
+its end, a device to the stream's declared end. A serial device is made ready first, as by stty -F DEVICE raw -echo 57600.
 --float writes 32-bit floats, and with --mono one number a frame, as in play.
---plain prints NUMBER PLACE COUNT, the count in ticks.
+--plain prints NUMBER PLACE COUNT, the count in ticks: of a fault as the stream arrives, those before it.
 
 Example:
   lampthistle board song.stream song.mod --out song.wav
+  lampthistle board /dev/ttyS0 song.mod --out - | aplay -f S16_LE -c 2 -r 48000
 
-Exit status: 0 accepted; 1 refused, and OUT is not written; 2 wrong use, or a file that cannot be read or written.
+Exit status: 0 accepted; 1 refused, and OUT is not written unless a tick of an arriving stream was played; 2 wrong use, or a file that
+cannot be read or written.
 ",
     run: run_board,
 };
@@ -106,38 +113,94 @@ fn run_board(words: &Words) -> Result<bool, Stop> {
     sound::format(out)?;
     let names = words.files(["STREAM", "FILE"])?;
     input::check_once(&names)?;
+    let about = input::about(names[0])?;
+    let (name, played) = if about.is_file() {
+        play_whole(names, kind, out)?
+    } else {
+        let stays_open = about.file_type().is_char_device();
+        play_arriving(names, stays_open, kind, out)?
+    };
+    let text = if words.plain {
+        plain_accepted(played.ticks)
+    } else {
+        output::played(&name, played.ticks, played.frames)
+    };
+    tell(words, &text).map(|()| true)
+}
+
+/// How much of a stream was played.
+#[derive(Default)]
+struct Played {
+    ticks: u64,
+    frames: u64,
+}
+
+/// Plays a stream that is at hand, and so judged before anything is written; its name.
+fn play_whole(names: [&OsStr; 2], kind: Kind, out: &OsStr) -> Result<(String, Played), Stop> {
     let (stream, file) = (input::open(names[0])?.whole()?, input::module(names[1])?);
     let _ = board::judge(&stream, &file)?;
     let frames = records::frames(&stream.bytes);
     check_room(out, kind, frames, |_| Ok(frames))?;
     let mut sound = Sound::create(out, kind, &[&stream, &file])?;
-    let count = match kind {
-        Kind::Whole => render::<i16>(&stream, &file, kind, &mut sound)?,
-        Kind::Floats(_) => render::<f32>(&stream, &file, kind, &mut sound)?,
-    };
+    let line = Line::of(&stream.name, &stream.bytes);
+    let mut played = Played::default();
+    render(line, &file, kind, &mut sound, &mut played)?;
     sound.finish()?;
-    let text = if words.plain {
-        plain_accepted(count)
-    } else {
-        output::played(&stream.name, count, frames)
-    };
-    tell(words, &text).map(|()| true)
+    Ok((stream.name, played))
 }
 
-/// Plays an accepted stream to the sound file; the ticks played.
-fn render<N: Number>(
-    stream: &Source,
+/// Plays a stream while it arrives; its name. However it ends, the sound before that stands.
+fn play_arriving(
+    names: [&OsStr; 2],
+    stays_open: bool,
+    kind: Kind,
+    out: &OsStr,
+) -> Result<(String, Played), Stop> {
+    let file = input::module(names[1])?;
+    let _ = file.judge()?;
+    let stream = input::open(names[0])?;
+    let mut sound = Sound::create(out, kind, &[&file])?.at_once();
+    let line = Line {
+        name: &stream.name,
+        from: stream.from,
+        stays_open,
+    };
+    let mut played = Played::default();
+    let ended = render(line, &file, kind, &mut sound, &mut played);
+    if ended.is_ok() || played.ticks > 0 {
+        sound.finish()?;
+    }
+    ended.map(|()| (stream.name, played))
+}
+
+/// Plays the stream of a line to the sound file, and counts what is played.
+fn render(
+    line: Line,
     file: &Source,
     kind: Kind,
     sound: &mut Sound,
-) -> Result<u64, Stop> {
-    let ticks = records::ticks(&stream.bytes);
-    let mut board = Board::<N>::new(&stream.bytes, &file.bytes, kind.sides());
-    let (mut count, mut progress) = (0, Progress::new());
+    played: &mut Played,
+) -> Result<(), Stop> {
+    match kind {
+        Kind::Whole => render_with::<i16>(line, file, kind, sound, played),
+        Kind::Floats(_) => render_with::<f32>(line, file, kind, sound, played),
+    }
+}
+
+fn render_with<N: Number>(
+    line: Line,
+    file: &Source,
+    kind: Kind,
+    sound: &mut Sound,
+    played: &mut Played,
+) -> Result<(), Stop> {
+    let mut board = Board::<N>::new(line, file, kind.sides());
+    let mut progress = Progress::new();
     while let Some(numbers) = board.next()? {
         sound.write(numbers)?;
-        count += 1;
-        progress.show("ticks", count, ticks);
+        played.ticks += 1;
+        played.frames += (numbers.len() / kind.sides()) as u64;
+        progress.show("ticks", played.ticks, board.all_ticks());
     }
-    Ok(count)
+    Ok(())
 }
