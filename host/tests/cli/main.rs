@@ -1,4 +1,5 @@
 //! The command line, run as a person or a script runs it.
+mod arrivals;
 mod channels;
 mod commands;
 mod common;
