@@ -142,3 +142,28 @@ impl Number for f32 {
         Value::Float(self)
     }
 }
+
+#[cfg(test)]
+mod tests {
+    use super::*;
+
+    /// Every 16-bit number, and sums up to the ends of their range.
+    #[test]
+    fn floats_of_all_numbers_are_exact() {
+        let mut floats = Vec::new();
+        for left in i16::MIN..=i16::MAX {
+            for right in [i16::MIN, -1, 0, left.wrapping_neg(), i16::MAX] {
+                let [l, r] = [left, right].map(f64::from);
+                f32::of_frames(&[left, right], 2, &mut floats);
+                assert!(floats.iter().all(|&n| n != 0.0 || n.to_bits() == 0));
+                assert_eq!(
+                    [f64::from(floats[0]), f64::from(floats[1])],
+                    [l, r].map(|n| n / 32_768.0)
+                );
+                f32::of_frames(&[left, right], 1, &mut floats);
+                assert!(floats[0] != 0.0 || floats[0].to_bits() == 0);
+                assert_eq!(f64::from(floats[0]), (l + r) / 65_536.0);
+            }
+        }
+    }
+}
