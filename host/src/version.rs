@@ -2,9 +2,9 @@
 use crate::sys;
 
 /// The version that these wrappers are for: major times 1,000,000, plus minor times 1,000, plus patch.
-pub const VERSION: u32 = 7_000;
+pub const VERSION: u32 = 8_000;
 
-/// This package's version, with the commit that it was built from where that is known: `0.7.0 (1856cfe0f1a2)`.
+/// This package's version, with the commit that it was built from where that is known: `0.8.0 (1856cfe0f1a2)`.
 pub const RELEASE: &str = env!("LAMPTHISTLE_RELEASE");
 
 /// The version of the library that is linked.
