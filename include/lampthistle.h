@@ -132,7 +132,7 @@ extern "C" {
 /* The most touches that one burst takes. */
 #define LAMPTHISTLE_MOST_TOUCHES 64
 /* The most stack that one call takes, and one that plays floats. */
-#define LAMPTHISTLE_STACK_BYTES 12288
+#define LAMPTHISTLE_STACK_BYTES 16384
 #define LAMPTHISTLE_FLOAT_STACK_BYTES 32768
 
 /* An answer's cells. */
