@@ -9,6 +9,7 @@ mod json;
 mod judge;
 mod layout;
 mod length;
+mod lines;
 mod notes;
 mod number;
 mod output;

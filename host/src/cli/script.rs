@@ -1,13 +1,13 @@
 //! Trial scripts, and records of what came of them (docs/FORMATS.md).
 use super::checksum::Checksum;
 use super::input::quoted;
+use super::lines::{self, Said, HEADER};
 use super::output::counted;
 use super::state;
 use super::stop::Stop;
 use lampthistle::{Answer, State};
 use std::ffi::OsStr;
 use std::fmt;
-use std::str::FromStr;
 
 /// One call of a trial.
 pub enum Call {
@@ -26,7 +26,7 @@ pub struct Touch {
 }
 
 impl Touch {
-    fn of(&[page, made, position]: &[u32; 3]) -> Touch {
+    pub fn of(&[page, made, position]: &[u32; 3]) -> Touch {
         Touch {
             page,
             made,
@@ -36,8 +36,18 @@ impl Touch {
 }
 
 impl Call {
+    pub fn name(&self) -> &'static str {
+        match self {
+            Call::Play(_) => "play",
+            Call::Touch(_) => "touch",
+            Call::Burst(_) => "burst",
+            Call::Page => "page",
+            Call::Why => "why",
+        }
+    }
+
     /// What a call counts that has a number for each of them, and what that number is.
-    fn each(&self) -> Option<(&'static str, &'static str)> {
+    pub fn each(&self) -> Option<(&'static str, &'static str)> {
         match self {
             Call::Burst(_) => Some(("touch", "number")),
             Call::Why => Some(("channel", "cause")),
@@ -152,24 +162,11 @@ fn before(bytes: &[u8], line: usize) -> &[u8] {
     &bytes[..bytes.len() - from.map_or(0, <[u8]>::len)]
 }
 
-/// The first words of a record's header, in their order.
-const HEADER: [&str; 4] = ["record", "program", "module", state::NAME];
 /// The version that is written, and the first one, whose records have no state and no end.
-const VERSION: &str = "2";
-const ENDLESS: &str = "1";
+pub const VERSION: &str = "2";
+pub const ENDLESS: &str = "1";
 /// A mark that some editors write at the beginning of a text.
 const UTF8_MARK: char = '\u{FEFF}';
-
-/// What a line says before its comment.
-enum Said {
-    Nothing,
-    Version(&'static str),
-    Program,
-    Module(Checksum),
-    State(Box<State>),
-    Call(Call, Option<Results>),
-    End(u64, Checksum),
-}
 
 /// Reads a whole script, so that a bad line is found before anything is played.
 pub fn parse<'a>(name: &str, text: &'a str) -> Result<Script<'a>, Stop> {
@@ -178,13 +175,13 @@ pub fn parse<'a>(name: &str, text: &'a str) -> Result<Script<'a>, Stop> {
     let mut header = &HEADER[..];
     for line in text.lines() {
         script.length += 1;
-        let wrong = |what, said: &str| {
+        let wrong = |what: &str, said: &str| {
             let (number, said) = (script.length, quoted(OsStr::new(said.trim())));
             Stop::Cannot(format!("{name}:{number}: {what}: {said}"))
         };
         if script.end.is_none() {
             let (said, comment) = line.split_at(line.find('#').unwrap_or(line.len()));
-            let read = read_line(said, &mut header).ok_or_else(|| wrong(NO_LINE, said))?;
+            let read = lines::read(said, &mut header).map_err(|what| wrong(&what, said))?;
             match read {
                 Said::End(..) if script.version != Some(VERSION) => {
                     return Err(wrong(NO_END, said))
@@ -199,7 +196,6 @@ pub fn parse<'a>(name: &str, text: &'a str) -> Result<Script<'a>, Stop> {
     Ok(script)
 }
 
-const NO_LINE: &str = "not play N, touch PAGE MADE POSITION, burst PAGE MADE POSITION .., page or why, nor a record's header or end";
 const NO_END: &str = "an end, but not of a record of version 2";
 /// Nothing stands there: the end does not count it.
 const AFTER_END: &str = "after the record's end";
@@ -226,90 +222,6 @@ impl<'a> Script<'a> {
             });
         }
     }
-}
-
-/// Reads a line; `header` is what is still to come of a record's header, of which nothing may come after the first call.
-fn read_line(said: &str, header: &mut &[&str]) -> Option<Said> {
-    let mut words = said.split_whitespace();
-    let Some(first) = words.next() else {
-        return Some(Said::Nothing);
-    };
-    if header.first() != Some(&first) {
-        *header = &[];
-        return match first {
-            "end" => read_end(words),
-            _ => read_call(said),
-        };
-    }
-    *header = &header[1..];
-    if first == state::NAME {
-        return state::read(words).map(|state| Said::State(state.into()));
-    }
-    match (first, words.next(), words.next()) {
-        ("record", Some(VERSION), None) => Some(Said::Version(VERSION)),
-        ("record", Some(ENDLESS), None) => Some(Said::Version(ENDLESS)),
-        ("program", _, _) => Some(Said::Program),
-        ("module", Some(sum), None) => Checksum::read(sum).map(Said::Module),
-        _ => None,
-    }
-}
-
-fn read_end<'a>(mut words: impl Iterator<Item = &'a str>) -> Option<Said> {
-    let (calls, sum) = (number(words.next()?)?, Checksum::read(words.next()?)?);
-    words.next().is_none().then_some(Said::End(calls, sum))
-}
-
-fn read_call(said: &str) -> Option<Said> {
-    let (said, results) = said
-        .split_once('=')
-        .map_or((said, None), |(call, results)| (call, Some(results)));
-    let mut words = said.split_whitespace();
-    let name = words.next()?;
-    let numbers: Option<Vec<u32>> = words.map(number).collect();
-    let numbers = numbers?;
-    let (touches, rest) = numbers.as_chunks();
-    let mut touches = touches.iter().map(Touch::of);
-    let call = match (name, numbers.as_slice()) {
-        ("play", &[ticks]) => Call::Play(ticks),
-        ("touch", [_, _, _]) => Call::Touch(touches.next()?),
-        ("burst", [_, ..]) if rest.is_empty() => Call::Burst(touches.collect()),
-        ("page", []) => Call::Page,
-        ("why", []) => Call::Why,
-        _ => return None,
-    };
-    let results = match results {
-        Some(text) => Some(read_results(&call, text)?),
-        None => None,
-    };
-    Some(Said::Call(call, results))
-}
-
-/// A decimal number, in digits alone.
-fn number<N: FromStr>(word: &str) -> Option<N> {
-    let digits = word.bytes().all(|c| c.is_ascii_digit());
-    word.parse().ok().filter(|_| digits)
-}
-
-fn read_results(call: &Call, text: &str) -> Option<Results> {
-    let words: Vec<&str> = text.split_whitespace().collect();
-    let [first, place, count, each @ .., clock, sound] = words.as_slice() else {
-        return None;
-    };
-    let results = Results {
-        answer: Answer {
-            number: number(first)?,
-            place: number(place)?,
-            count: number(count)?,
-        },
-        each: each
-            .iter()
-            .map(|word| number(word))
-            .collect::<Option<_>>()?,
-        clock: number(clock)?,
-        sound: Checksum::read(sound)?,
-    };
-    let counted = call.each().map_or(0, |_| results.answer.count);
-    (results.each.len() as u64 == counted).then_some(results)
 }
 
 /// The checksum by which a record knows its module.
@@ -348,15 +260,12 @@ impl fmt::Display for Touch {
 
 impl fmt::Display for Call {
     fn fmt(&self, f: &mut fmt::Formatter) -> fmt::Result {
+        f.write_str(self.name())?;
         match self {
-            Call::Play(ticks) => write!(f, "play {ticks}"),
-            Call::Touch(touch) => write!(f, "touch {touch}"),
-            Call::Burst(touches) => {
-                f.write_str("burst")?;
-                touches.iter().try_for_each(|touch| write!(f, " {touch}"))
-            }
-            Call::Page => f.write_str("page"),
-            Call::Why => f.write_str("why"),
+            Call::Play(ticks) => write!(f, " {ticks}"),
+            Call::Touch(touch) => write!(f, " {touch}"),
+            Call::Burst(touches) => touches.iter().try_for_each(|touch| write!(f, " {touch}")),
+            Call::Page | Call::Why => Ok(()),
         }
     }
 }

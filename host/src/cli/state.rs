@@ -1,23 +1,26 @@
 //! States as text: the word state, and fresh or all cells (docs/FORMATS.md).
 use super::input::Source;
+use super::lines::number;
 use super::stop::{Refusal, Stop};
 use lampthistle::{State, STATE_CELLS};
 
 pub const NAME: &str = "state";
 const FRESH: &str = "fresh";
 
-/// The state that the words after the first say.
-pub fn read<'a>(words: impl Iterator<Item = &'a str>) -> Option<State> {
-    let words: Vec<&str> = words.collect();
+/// The state that the words after the first say, or what is wrong in them.
+pub fn read(words: &[&str]) -> Result<State, String> {
     if words == [FRESH] {
-        return Some(lampthistle::fresh());
+        return Ok(lampthistle::fresh());
     }
-    let digits = |word: &&str| word.bytes().all(|c| c.is_ascii_digit());
-    let cells = words
+    let cells: Vec<u32> = words
         .iter()
-        .map(|word| word.parse().ok().filter(|_| digits(word)));
-    let cells: Vec<u32> = cells.collect::<Option<_>>()?;
-    cells.try_into().ok().map(State)
+        .map(|word| number(word))
+        .collect::<Result<_, _>>()?;
+    let state = cells.try_into().map(State);
+    state.map_err(|cells| {
+        let has = cells.len();
+        format!("a state is {FRESH} or {STATE_CELLS} numbers, and has {has}")
+    })
 }
 
 /// The line that says a state.
@@ -32,9 +35,11 @@ pub fn line(state: &State) -> String {
 /// The state of a file that holds one line; without the line's end it may be cut.
 pub fn parse(source: &Source) -> Result<State, Stop> {
     let text = String::from_utf8_lossy(&source.bytes);
-    let mut words = text.split_whitespace();
-    let is_state = text.ends_with('\n') && words.next() == Some(NAME);
-    let state = Some(words).filter(|_| is_state).and_then(read);
+    let words: Vec<&str> = text.split_whitespace().collect();
+    let state = match words.as_slice() {
+        [NAME, cells @ ..] if text.ends_with('\n') => read(cells).ok(),
+        _ => None,
+    };
     state.ok_or_else(|| {
         let name = &source.name;
         Stop::Cannot(format!(

@@ -11,6 +11,7 @@ mod objects;
 mod outputs;
 mod recordings;
 mod robust;
+mod scripts;
 mod songs;
 mod sounds;
 mod streams;

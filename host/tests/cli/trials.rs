@@ -25,29 +25,6 @@ fn replay_answers_each_call() {
 }
 
 #[test]
-fn replay_names_a_bad_line() {
-    let script = own("bad_line.txt");
-    for line in [
-        "play",
-        "play -1",
-        "play 4294967296",
-        "touch 1 2",
-        "pages",
-        "page 1",
-        "why 1",
-        "burst",
-        "burst 1 2",
-        "burst 1 2 3 4",
-    ] {
-        std::fs::write(&script, format!("play 1\n{line}\n")).unwrap();
-        let words = ["replay", &stored("flow"), script.to_str().unwrap()];
-        let (status, out, err) = told(&words);
-        assert_eq!((status, out.as_str()), (2, ""), "{line}");
-        assert!(err.contains("bad_line.txt:2: "), "{err}");
-    }
-}
-
-#[test]
 fn scripts_may_have_marks_and_comments() {
     let script = "\u{FEFF}play 5 # five ticks\n  # nothing\npage#turned\n";
     let script = text("marked.txt", script);
@@ -244,7 +221,10 @@ fn recorded_bursts_come_again() {
     // An answer too few.
     let (status, _, err) = check(&written.replacen("2 0 16 5", "2 0 5", 1));
     assert_eq!(status, 2);
-    assert!(err.contains(":6: not play N"), "{err}");
+    assert!(
+        err.contains(":6: results count 2 touches, and have 1 number: "),
+        "{err}"
+    );
     // The same touches one by one sound the same.
     let singles = text("singles.txt", "play 5\ntouch 0 3 1\ntouch 1 5 0\nplay 2\n");
     let (_, other, _) = told(&["replay", &stored("flow"), &singles, "--record", "-"]);
@@ -275,13 +255,17 @@ fn recorded_causes_come_again() {
         "{err}"
     );
     // A cause too few, and causes where none belong.
-    for (from, to) in [
-        ("4 1 1 1 1", "4 1 1 1"),
-        ("play 5 = 0 0 5 5", "play 5 = 0 0 5 1 5"),
+    for (from, to, what) in [
+        ("4 1 1 1 1", "4 1 1 1", ":5: results count 4 channels, "),
+        (
+            "play 5 = 0 0 5 5",
+            "play 5 = 0 0 5 1 5",
+            ":6: results of play ",
+        ),
     ] {
         let (status, _, err) = check(&text("causes.record", &written.replacen(from, to, 1)));
         assert_eq!(status, 2, "{to}");
-        assert!(err.contains(": not play N"), "{err}");
+        assert!(err.contains(what), "{err}");
     }
 }
 
@@ -290,9 +274,12 @@ fn what_is_no_record_is_not_checked() {
     let module = &stored("flow");
     for (lines, reason) in [
         (SCRIPT, "not a record: it names no module"),
-        ("record 3\n", ":1: not "),
-        ("play 1\nrecord 2\n", ":2: not "),
-        ("record 2\nprogram x\nmodule 12\n", ":3: not "),
+        ("record 3\n", ":1: a record's version is 1 or 2, not 3"),
+        ("play 1\nrecord 2\n", ":2: a record's header is "),
+        (
+            "record 2\nprogram x\nmodule 12\n",
+            ":3: 12 is not a checksum",
+        ),
     ] {
         let (status, out, err) = told(&["replay", module, &text("no.record", lines), "--check"]);
         assert_eq!((status, out.as_str()), (2, ""), "{lines}");

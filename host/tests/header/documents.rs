@@ -82,10 +82,14 @@ fn api_says_the_header_s_limits() {
     assert!(api.contains(&format!("one that plays floats {floats} KiB")));
 }
 
+/// Above it only a version to come may stand, marked so.
 #[test]
 fn the_changelog_begins_with_this_version() {
     let changelog = file("CHANGELOG.md");
-    let first = changelog.lines().find_map(|line| line.strip_prefix("## "));
+    let mut headings = changelog
+        .lines()
+        .filter_map(|line| line.strip_prefix("## "));
+    let first = headings.find(|heading| !heading.ends_with(", to come"));
     let version = first.and_then(|heading| heading.split(' ').next());
     assert_eq!(version, Some(env!("CARGO_PKG_VERSION")));
 }
