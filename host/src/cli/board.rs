@@ -1,6 +1,8 @@
 //! The sound board, which is fed with a stream as its bytes come, from a line or from a file at hand: in buffers of fixed size, and in time
 //! that grows as the stream does.
 use super::input::Source;
+use super::json::Fields;
+use super::name::Name;
 use super::number::Number;
 use super::records::Arriving;
 use super::stop::{Refusal, Stop};
@@ -22,10 +24,17 @@ pub fn judge(stream: &Source, file: &Source) -> Result<Answer, Stop> {
     }
 }
 
+/// How far a stream came.
+pub fn came(ticks: u64, bytes: u64) -> Fields {
+    vec![
+        ("ticks_played", ticks.into()),
+        ("bytes_taken", bytes.into()),
+    ]
+}
+
 /// Where a stream's bytes come from.
 pub struct Line<'a> {
-    /// Its name as messages show it.
-    pub name: &'a str,
+    pub name: &'a Name,
     pub from: Box<dyn Read + 'a>,
     /// Whether it has no end of its own, as a device: then nothing is read after the stream's declared end.
     pub stays_open: bool,
@@ -33,7 +42,7 @@ pub struct Line<'a> {
 
 impl<'a> Line<'a> {
     /// A stream that is at hand.
-    pub fn of(name: &'a str, stream: &'a [u8]) -> Line<'a> {
+    pub fn of(name: &'a Name, stream: &'a [u8]) -> Line<'a> {
         Line {
             name,
             from: Box::new(stream),
@@ -89,6 +98,11 @@ impl<'a, N: Number> Board<'a, N> {
         self.records.ticks
     }
 
+    /// How many bytes were taken so far.
+    pub fn bytes_taken(&self) -> u64 {
+        self.bytes
+    }
+
     /// The next tick's numbers, when its bytes are in; none after the last. A fault comes after the ticks before it.
     pub fn next(&mut self) -> Result<Option<&[N]>, Stop> {
         while self.lengths.is_empty() {
@@ -133,7 +147,7 @@ impl<'a, N: Number> Board<'a, N> {
             }
         };
         self.read.truncate(*read.as_ref().unwrap_or(&0));
-        read.map_err(|e| Stop::Io(self.line.name.into(), e))
+        read.map_err(|e| Stop::Io(self.line.name.to_string(), e))
     }
 
     /// Whether nothing more is to be awaited: closing would not come short.
@@ -154,13 +168,10 @@ impl<'a, N: Number> Board<'a, N> {
     fn refused(&self, answer: Answer) -> Stop {
         let count = self.ticks;
         Stop::Refused(Refusal {
-            name: self.line.name.into(),
+            name: self.line.name.clone(),
             answer: Answer { count, ..answer },
             meaning: answer.meaning(),
-            found: vec![
-                ("ticks_played", self.ticks.into()),
-                ("bytes_taken", self.bytes.into()),
-            ],
+            found: came(self.ticks, self.bytes),
         })
     }
 }
@@ -206,7 +217,7 @@ mod tests {
     /// All numbers of a stream that comes so many bytes at a time.
     fn played<N: Number>(file: &Source, stream: &[u8], at_once: usize, sides: u32) -> Vec<N> {
         let line = Line {
-            name: "slow",
+            name: &"slow".into(),
             from: Box::new(Slow(stream, at_once)),
             stays_open: false,
         };
@@ -271,7 +282,7 @@ mod tests {
         bad[4] = 9;
         for (stream, ticks, fault) in [(&stream, 40, 0), (&over, 40, 21), (&bad, 0, 22)] {
             let line = Line {
-                name: "open",
+                name: &"open".into(),
                 from: Box::new(Open(stream)),
                 stays_open: true,
             };

@@ -4,6 +4,7 @@ use super::course::{course, MOST_TICKS};
 use super::input::{self, Source};
 use super::json::{self, Fields, Value};
 use super::length::ticks_asked;
+use super::name::Name;
 use super::number::{Kind, Number, FLOAT, MONO_FLAG};
 use super::output::{counted, say};
 use super::progress::Progress;
@@ -20,7 +21,7 @@ use std::ffi::OsString;
 pub const COMMAND: Command = Command {
     name: "compare",
     options: &["--ticks"],
-    flags: &["--once", FLOAT, MONO_FLAG, "--json"],
+    flags: &["--once", FLOAT, MONO_FLAG],
     help: "\
 lampthistle compare FILE [--once | --ticks N] [--float [--mono]] [--plain | --json]
 lampthistle compare FILE STREAM [--once | --ticks N] [--float [--mono]] [--plain | --json]
@@ -173,7 +174,8 @@ fn run_with<N: Number>(words: &Words, kind: Kind) -> Result<bool, Stop> {
         let length = Length::of(words, &file)?;
         let ticks = length.asked().unwrap_or(TICKS);
         let stream = translated_for(&file, ticks, "more than 65,535 ticks for the board to play")?;
-        return with_board::<N>(words, &file, kind, ("board", &stream), &length);
+        let board = (&Name::from("board"), stream.as_slice());
+        return with_board::<N>(words, &file, kind, board, &length);
     };
     input::check_once(&[first, second])?;
     let (file, mut other) = (input::module(first)?, input::open(second)?);
@@ -183,7 +185,7 @@ fn run_with<N: Number>(words: &Words, kind: Kind) -> Result<bool, Stop> {
             let judged = board::judge(&stream, &file);
             let _ = judged.map_err(|stop| recording::no_stream(&stream, stop))?;
             let length = Length::of(words, &file)?;
-            let stream = (stream.name.as_str(), stream.bytes.as_slice());
+            let stream = (&stream.name, stream.bytes.as_slice());
             with_board::<N>(words, &file, kind, stream, &length)
         }
         Some(format) => {
@@ -201,7 +203,7 @@ fn with_board<N: Number>(
     words: &Words,
     file: &Source,
     kind: Kind,
-    (name, stream): (&str, &[u8]),
+    (name, stream): (&Name, &[u8]),
     length: &Length,
 ) -> Result<bool, Stop> {
     let board = Board::<N>::new(Line::of(name, stream), file, kind.sides());
@@ -278,7 +280,7 @@ fn first_difference<N: Number>(kind: Kind, player: &[N], other: &[N]) -> Option<
 fn tell(
     words: &Words,
     file: &Source,
-    name: &str,
+    name: &Name,
     length: &Length,
     outcome: &Outcome,
 ) -> Result<bool, Stop> {
@@ -323,10 +325,10 @@ fn difference_line(name: &str, length: &Length, outcome: &Outcome, found: &Diffe
     }
 }
 
-fn fields(file: &Source, name: &str, length: &Length, outcome: &Outcome) -> Fields {
+fn fields(file: &Source, name: &Name, length: &Length, outcome: &Outcome) -> Fields {
     let mut fields = report::accepted(&file.name);
+    fields.extend(name.fields(["with", "with_bytes"]));
     fields.extend([
-        ("with", name.into()),
         ("equal", outcome.difference.is_none().into()),
         ("ticks", outcome.ticks.into()),
         ("frames", outcome.frames.into()),

@@ -13,7 +13,7 @@ use super::Command;
 pub const COMMAND: Command = Command {
     name: "info",
     options: &[],
-    flags: &["--json"],
+    flags: &[],
     help: "\
 lampthistle info [--plain | --json] FILE
 
@@ -127,8 +127,8 @@ fn fields(source: &Source, course: Option<&Course>) -> Fields {
             ("row", course.row.into()),
         ]
     });
+    fields.extend(named(["title", "title_bytes"], &file[TITLE]));
     fields.extend([
-        ("title", readable(&file[TITLE]).into()),
         ("channels", channels(file).into()),
         ("song_length", played(file).len().into()),
         ("patterns", pattern_count(file).into()),
@@ -144,13 +144,23 @@ fn fields(source: &Source, course: Option<&Course>) -> Fields {
 
 fn sample_fields(header: Header) -> Fields {
     let looped = header.looped();
-    vec![
-        ("sample", header.number.into()),
-        ("name", readable(header.name).into()),
+    let mut fields: Fields = vec![("sample", header.number.into())];
+    fields.extend(named(["name", "name_bytes"], header.name));
+    fields.extend([
         ("bytes", header.length.into()),
         ("volume", header.volume.into()),
         ("finetune", header.finetune.into()),
         ("loop_start", looped.map(|(start, _)| start).into()),
         ("loop_length", looped.map(|(_, length)| length).into()),
-    ]
+    ]);
+    fields
+}
+
+/// A text of the file, and all its bytes where it has others than those that it shows, and zeros behind them.
+fn named(keys: [&'static str; 2], bytes: &[u8]) -> Fields {
+    let text = readable(bytes);
+    match bytes.strip_prefix(text.as_bytes()) {
+        Some(rest) if rest.iter().all(|&byte| byte == 0) => vec![(keys[0], text.into())],
+        _ => json::exact(keys, &text, bytes),
+    }
 }

@@ -1,5 +1,6 @@
 //! Reading the files that are named.
 use super::layout;
+use super::name::Name;
 use super::place;
 use super::stop::{Refusal, Stop};
 use lampthistle::Answer;
@@ -18,9 +19,9 @@ const MODULE_BYTES: u64 = 1 + layout::MOST_BYTES as u64;
 /// Which file it is, by device and number.
 pub type Identity = (u64, u64);
 
-/// A file's name as messages show it, and its bytes.
+/// A file's name and its bytes.
 pub struct Source {
-    pub name: String,
+    pub name: Name,
     pub bytes: Vec<u8>,
     pub identity: Option<Identity>,
 }
@@ -92,6 +93,9 @@ pub fn module(name: &OsStr) -> Result<Source, Stop> {
     Ok(file.source(bytes))
 }
 
+/// What standard input is called.
+const STANDARD_INPUT: &str = "standard input";
+
 /// What an input's name finds. A pipe is not opened, which would wait for its other end.
 pub fn about(name: &OsStr) -> Result<Metadata, Stop> {
     let about = match name.to_str() {
@@ -99,31 +103,30 @@ pub fn about(name: &OsStr) -> Result<Metadata, Stop> {
         _ => return fs::metadata(name).map_err(|e| Stop::Io(shown(name), e)),
     };
     let about = about.and_then(|input| File::from(input).metadata());
-    about.map_err(|e| Stop::Io("standard input".into(), e))
+    about.map_err(|e| Stop::Io(STANDARD_INPUT.into(), e))
 }
 
 /// A file that is open: standard input is named -.
 pub fn open(name: &OsStr) -> Result<Opened, Stop> {
     if name == "-" {
         return Ok(Opened {
-            name: "standard input".into(),
+            name: STANDARD_INPUT.into(),
             from: Box::new(io::stdin()),
             identity: None,
         });
     }
-    let text = shown(name);
-    let file = File::open(name).map_err(|e| Stop::Io(text.clone(), e))?;
+    let file = File::open(name).map_err(|e| Stop::Io(shown(name), e))?;
     let identity = file.metadata().ok().and_then(|about| identity(&about));
     Ok(Opened {
-        name: text,
+        name: Name::of(name),
         from: Box::new(file),
         identity,
     })
 }
 
-/// A file's name as messages show it, and what is still to be read of it.
+/// A file's name, and what is still to be read of it.
 pub struct Opened {
-    pub name: String,
+    pub name: Name,
     pub from: Box<dyn Read>,
     identity: Option<Identity>,
 }
@@ -141,7 +144,7 @@ impl Opened {
         let mut bytes = Vec::new();
         match self.from.by_ref().take(most).read_to_end(&mut bytes) {
             Ok(_) => Ok(bytes),
-            Err(e) => Err(Stop::Io(self.name.clone(), e)),
+            Err(e) => Err(Stop::Io(self.name.to_string(), e)),
         }
     }
 

@@ -15,9 +15,24 @@ pub enum Value {
 /// Names and values in their order.
 pub type Fields = Vec<(&'static str, Value)>;
 
+/// What the objects' keys mean, as docs/FORMATS.md says it. It goes up where a key goes away or means something else.
+const SCHEMA: u32 = 1;
+
 /// A line of one object.
 pub fn object(fields: Fields) -> String {
-    format!("{}\n", Value::Object(fields))
+    let mut all: Fields = vec![("schema", SCHEMA.into())];
+    all.extend(fields);
+    format!("{}\n", Value::Object(all))
+}
+
+/// A text that stands for bytes, and under a second key the bytes in hexadecimal where the text is not just these.
+pub fn exact([key, bytes_key]: [&'static str; 2], text: &str, bytes: &[u8]) -> Fields {
+    let mut fields: Fields = vec![(key, text.into())];
+    if text.as_bytes() != bytes {
+        let hexadecimal: String = bytes.iter().map(|byte| format!("{byte:02x}")).collect();
+        fields.push((bytes_key, hexadecimal.into()));
+    }
+    fields
 }
 
 impl Value {

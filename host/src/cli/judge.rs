@@ -1,6 +1,7 @@
 //! judge FILE..: a line a file.
 use super::input::{self, Source};
-use super::json::{self, Fields, Value};
+use super::json::{self, Value};
+use super::name::{Name, FILE};
 use super::notes::notes;
 use super::output::say;
 use super::report;
@@ -11,7 +12,7 @@ use super::Command;
 pub const COMMAND: Command = Command {
     name: "judge",
     options: &[],
-    flags: &["--notes", "--json"],
+    flags: &["--notes"],
     help: "\
 lampthistle judge [--notes] [--plain | --json] FILE..
 
@@ -54,7 +55,7 @@ fn run(words: &Words) -> Result<bool, Stop> {
             Err(stop) => {
                 stop.tell();
                 read = false;
-                unread(words, &input::shown(name), &stop)
+                unread(words, &Name::of(name), &stop)
             }
         };
         say(&text)?;
@@ -107,9 +108,10 @@ fn accepted(words: &Words, source: &Source) -> String {
 }
 
 /// The line of a file that cannot be read, where scripts count on one.
-fn unread(words: &Words, name: &str, stop: &Stop) -> String {
+fn unread(words: &Words, name: &Name, stop: &Stop) -> String {
     if words.json {
-        let fields: Fields = vec![("file", name.into()), ("error", stop.reason().into())];
+        let mut fields = name.fields(FILE);
+        fields.push(("error", stop.reason().into()));
         json::object(fields)
     } else if words.plain {
         format!("- - - {name}\n")

@@ -10,6 +10,7 @@ mod judge;
 mod layout;
 mod length;
 mod lines;
+mod name;
 mod notes;
 mod number;
 mod output;
@@ -75,7 +76,7 @@ lampthistle: plays ProTracker modules of four, six or eight channels (M.K., 4CHN
   lampthistle --version
 
 A file named - is standard input. --plain prints bare numbers: NUMBER PLACE COUNT, with number 0 for accepted; --json prints an object a
-line. -o is --out, and --out=OUT is --out OUT.
+line (docs/FORMATS.md). -o is --out, and --out=OUT is --out OUT.
 
 Example:
   lampthistle play song.mod --once --out song.wav
@@ -100,13 +101,31 @@ fn dispatch(words: &[OsString]) -> Result<bool, Stop> {
         return Err(Stop::Usage("no command\nTry: lampthistle --help".into()));
     };
     match first.to_str() {
-        Some("help") if words.len() > 1 => run_command(named(&words[1])?, &["--help".into()]),
-        Some("--help" | "-h" | "help") => output::say(HELP).map(|()| true),
+        Some("help") if words.len() > 1 => {
+            check_end(words, 2)?;
+            run_command(named(&words[1])?, &["--help".into()])
+        }
+        Some("--help" | "-h" | "help") => {
+            check_end(words, 1)?;
+            output::say(HELP).map(|()| true)
+        }
         Some("--version" | "-V") => {
+            check_end(words, 1)?;
             output::say(&format!("lampthistle {}\n", lampthistle::RELEASE)).map(|()| true)
         }
         _ => run_command(named(first)?, &words[1..]),
     }
+}
+
+/// Stops where more words are given than so many.
+fn check_end(words: &[OsString], most: usize) -> Result<(), Stop> {
+    let Some(extra) = words.get(most) else {
+        return Ok(());
+    };
+    let (first, extra) = (input::quoted(&words[0]), input::quoted(extra));
+    Err(Stop::Usage(format!(
+        "{first}: one word too many: {extra}\nTry: lampthistle --help"
+    )))
 }
 
 /// The command of this name.

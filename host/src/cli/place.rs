@@ -1,5 +1,5 @@
 //! What stands at a refusal's place, in the words of somebody who looks for it in a tracker.
-use super::json::Fields;
+use super::json::{self, Fields};
 use super::layout::{self, Spot, HEADERS, HEADER_BYTES, SONG_LENGTH, TABLE, TAG};
 use super::records;
 use lampthistle::{refusal, Answer};
@@ -8,7 +8,10 @@ use lampthistle::{refusal, Answer};
 pub fn found(file: &[u8], answer: &Answer) -> Fields {
     let place = answer.place as usize;
     match answer.number {
-        refusal::TAG => vec![("tag", layout::printable(&file[TAG]).into())],
+        refusal::TAG => {
+            let tag = &file[TAG];
+            json::exact(["tag", "tag_bytes"], &layout::printable(tag), tag)
+        }
         refusal::SONG_LENGTH => vec![("song_length", file[SONG_LENGTH].into())],
         refusal::TABLE_ENTRY => vec![
             ("entry", (place - TABLE.start).into()),

@@ -4,7 +4,7 @@ use super::length::Length;
 use super::number::{Kind, Number, FLOAT, MONO_FLAG};
 use super::output::tell;
 use super::progress::Progress;
-use super::report::plain_accepted;
+use super::report::{self, plain_accepted};
 use super::song::Song;
 use super::sound::{self, check_room, Sound};
 use super::stop::Stop;
@@ -16,7 +16,7 @@ pub const COMMAND: Command = Command {
     options: &["--ticks", "--seconds", "--out"],
     flags: &["--once", FLOAT, MONO_FLAG],
     help: "\
-lampthistle play FILE [--once | --ticks N | --seconds S] [--float [--mono]] --out OUT [--plain]
+lampthistle play FILE [--once | --ticks N | --seconds S] [--float [--mono]] --out OUT [--plain | --json]
 
 Renders the module from its beginning: 48,000 frames a second, two channels. OUT ends in .wav, or in .raw for bare 16-bit numbers, low
 byte first; - writes bare numbers to standard output. --once plays until the song comes back to a place where it has been, as info
@@ -24,7 +24,7 @@ tells; --ticks N plays N ticks; --seconds S the whole ticks that fit into S seco
 goes on from its beginning. OUT gets its name when it is whole; until then it is OUT.0.part, which the next run takes away if it is left.
 --float writes 32-bit floats instead, left / 32,768 and right / 32,768, each exact; with --mono one number a frame, the sum of both /
 65,536.
---plain prints NUMBER PLACE COUNT, the count in ticks.
+--plain prints NUMBER PLACE COUNT, the count in ticks. --json prints one object; beside the sound, with --out -, it goes to standard error.
 
 Examples:
   lampthistle play song.mod --once --out song.wav
@@ -53,7 +53,10 @@ fn run(words: &Words) -> Result<bool, Stop> {
         Kind::Floats(_) => render::<f32>(&source, length, kind, &mut sound)?,
     };
     sound.finish()?;
-    let text = if words.plain {
+    let text = if words.json {
+        let counts = vec![("ticks", ticks.into()), ("frames", frames.into())];
+        report::written(&source.name, out, counts)
+    } else if words.plain {
         plain_accepted(ticks)
     } else {
         output::played(&source.name, ticks, frames)

@@ -1,5 +1,6 @@
 //! A recording of a module, read as it is compared: .wav, or bare numbers.
 use super::input::{Opened, Source};
+use super::name::Name;
 use super::number::{Kind, Number};
 use super::output::counted;
 use super::sound::{wav_kind, Format, WAV_FLOATS, WAV_WHOLE};
@@ -28,7 +29,7 @@ pub fn format(name: &OsStr, file: &mut Opened) -> Result<Option<Format>, Stop> {
 }
 
 pub struct Recording<N> {
-    pub name: String,
+    pub name: Name,
     kind: Kind,
     from: BufReader<Box<dyn Read>>,
     /// The bytes that a header says are still to come; none where it leaves that open.
@@ -45,7 +46,7 @@ impl<N: Number> Recording<N> {
             Format::Wav => match wav_sound(&mut from, kind) {
                 Ok(Ok(left)) => left,
                 Ok(Err(what)) => return Err(Stop::Cannot(format!("{name}: {what}"))),
-                Err(e) => return Err(Stop::Io(name, e)),
+                Err(e) => return Err(Stop::Io(name.to_string(), e)),
             },
         };
         Ok(Recording {
@@ -63,7 +64,7 @@ impl<N: Number> Recording<N> {
         let asked = self.left.map_or(asked, |left| left.min(asked));
         let mut bytes = Vec::with_capacity(asked as usize);
         let read = self.from.by_ref().take(asked).read_to_end(&mut bytes);
-        read.map_err(|e| Stop::Io(self.name.clone(), e))?;
+        read.map_err(|e| Stop::Io(self.name.to_string(), e))?;
         let cannot = |what: String| Err(Stop::Cannot(format!("{}: {what}", self.name)));
         if let Some(left) = &mut self.left {
             *left -= bytes.len() as u64;
@@ -143,7 +144,7 @@ fn sound_format(start: &[u8]) -> Option<&'static str> {
 pub fn no_stream(file: &Source, stop: Stop) -> Stop {
     let start = &file.bytes[..file.bytes.len().min(START as usize)];
     match (&stop, sound_format(start)) {
-        (Stop::Refused(refusal), Some(format)) if refusal.name == file.name => {
+        (Stop::Refused(refusal), Some(format)) if *refusal.name == *file.name => {
             let name = &file.name;
             Stop::Cannot(format!(
                 "{name}: is a sound file of format {format}; a recording's name ends in .wav or .raw"

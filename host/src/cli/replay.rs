@@ -1,6 +1,7 @@
 //! replay FILE SCRIPT: runs a trial again, records it, or checks its record.
 use super::input::{self, Source};
 use super::json::{self, Fields, Value};
+use super::name::{Name, FILE};
 use super::number::Kind;
 use super::output::{self, counted, write_bytes};
 use super::report::{self, plain_accepted};
@@ -19,7 +20,7 @@ use std::ffi::OsStr;
 pub const COMMAND: Command = Command {
     name: "replay",
     options: &["--out", "--record", "--from", "--save"],
-    flags: &["--check", "--json"],
+    flags: &["--check"],
     help: "\
 lampthistle replay FILE SCRIPT [--from STATE] [--out OUT] [--record RECORD] [--save STATE] [--plain | --json]
 lampthistle replay FILE RECORD --check [--out OUT] [--plain | --json]
@@ -226,7 +227,7 @@ fn check(trial: &mut Trial, script: &Script, text: &Source) -> Result<Option<Dif
 /// Tells whether a record came again, and gives it.
 fn checked(
     words: &Words,
-    name: &str,
+    name: &Name,
     script: &Script,
     differs: Option<Differs>,
 ) -> Result<bool, Stop> {
@@ -235,14 +236,15 @@ fn checked(
     let text = match differs {
         differs if words.json => {
             let (line, how) = differs.unzip();
-            json::object(vec![
-                ("file", name.into()),
+            let mut fields = name.fields(FILE);
+            fields.extend([
                 ("came_again", again.into()),
                 ("calls", calls.into()),
                 ("ticks", ticks.into()),
                 ("line", line.into()),
                 ("difference", how.into()),
-            ])
+            ]);
+            json::object(fields)
         }
         Some((line, how)) => {
             Stop::Cannot(format!("{name}:{line}: {how}")).tell();
@@ -258,7 +260,7 @@ fn checked(
 }
 
 /// A call's line, and below it a line for each that it counts.
-fn told(words: &Words, file: &str, call: &Call, results: &Results, state: &State) -> String {
+fn told(words: &Words, file: &Name, call: &Call, results: &Results, state: &State) -> String {
     if words.json {
         return json::object(fields(file, call, results, state));
     }
@@ -306,7 +308,7 @@ fn answered(number: u64) -> Answer {
     }
 }
 
-fn fields(file: &str, call: &Call, results: &Results, state: &State) -> Fields {
+fn fields(file: &Name, call: &Call, results: &Results, state: &State) -> Fields {
     let mut fields = report::answered(file, &results.answer);
     fields.extend([
         ("count", results.answer.count.into()),

@@ -1,10 +1,12 @@
 //! An answer as a line: for a person, bare, or as an object.
 use super::json::{self, Fields};
+use super::name::{Name, FILE};
 use super::output;
 use super::place;
 use super::stop::{Refusal, Stop};
 use super::words::Words;
 use lampthistle::Answer;
+use std::ffi::OsStr;
 
 /// Tells a refusal as the command's result.
 pub fn refused(words: &Words, refusal: &Refusal) -> Result<(), Stop> {
@@ -31,23 +33,32 @@ fn refusal_fields(refusal: &Refusal) -> Fields {
     fields
 }
 
-/// The same of a file that is accepted.
-pub fn accepted(name: &str) -> Fields {
+/// The object of work whose result was written to a file of this name.
+pub fn written(name: &Name, out: &OsStr, counts: Fields) -> String {
+    let mut fields = accepted(name);
+    fields.extend(counts);
+    fields.extend(Name::of(out).fields(["out", "out_bytes"]));
+    json::object(fields)
+}
+
+/// The first fields of an object of a file that is accepted.
+pub fn accepted(name: &Name) -> Fields {
     answered(name, &ACCEPTED)
 }
 
 /// The first fields of an answer's object.
-pub fn answered(name: &str, answer: &Answer) -> Fields {
+pub fn answered(name: &Name, answer: &Answer) -> Fields {
     meant(name, answer, answer.meaning())
 }
 
-fn meant(name: &str, answer: &Answer, meaning: &str) -> Fields {
-    vec![
-        ("file", name.into()),
+fn meant(name: &Name, answer: &Answer, meaning: &str) -> Fields {
+    let mut fields = name.fields(FILE);
+    fields.extend([
         ("number", answer.number.into()),
         ("place", answer.place.into()),
         ("meaning", meaning.into()),
-    ]
+    ]);
+    fields
 }
 
 const ACCEPTED: Answer = Answer {

@@ -1,5 +1,6 @@
 //! Why a command ends before its work is done, and the exit status that this gives.
 use super::json::Fields;
+use super::name::Name;
 use lampthistle::Answer;
 use std::io::{self, Write};
 
@@ -15,7 +16,7 @@ pub enum Stop {
 
 /// A file that the library refuses.
 pub struct Refusal {
-    pub name: String,
+    pub name: Name,
     pub answer: Answer,
     /// What it means for the command.
     pub meaning: &'static str,

@@ -2,11 +2,12 @@
 use super::board::{self, Board, Line};
 use super::input::{self, Source};
 use super::length::ticks_asked;
+use super::name::Name;
 use super::number::{Kind, Number, FLOAT, MONO_FLAG};
 use super::output::{self, check_terminal, counted, tell, write_bytes};
 use super::progress::Progress;
 use super::records;
-use super::report::plain_accepted;
+use super::report::{self, plain_accepted};
 use super::sound::{self, check_room, Sound};
 use super::stop::Stop;
 use super::words::Words;
@@ -20,11 +21,11 @@ pub const TRANSLATE: Command = Command {
     options: &["--ticks", "--out"],
     flags: &["--once"],
     help: "\
-lampthistle translate FILE (--once | --ticks N) --out OUT [--plain]
+lampthistle translate FILE (--once | --ticks N) --out OUT [--plain | --json]
 
 Writes the tick stream, of version 3, of the module's first N ticks, 65,535 at most, to OUT; - is standard output. --once takes the
 ticks until the song comes back to a place where it has been, as info tells.
---plain prints NUMBER PLACE COUNT, the count in bytes.
+--plain prints NUMBER PLACE COUNT, the count in bytes. --json prints one object.
 
 Example:
   lampthistle translate song.mod --ticks 3000 --out song.stream
@@ -39,7 +40,7 @@ pub const BOARD: Command = Command {
     options: &["--out"],
     flags: &[FLOAT, MONO_FLAG],
     help: "\
-lampthistle board STREAM FILE [--float [--mono]] --out OUT [--plain]
+lampthistle board STREAM FILE [--float [--mono]] --out OUT [--plain | --json]
 
 Plays a tick stream of version 1, 2 or 3 as the sound board does, with the samples of the module FILE, which has as many channels as the
 stream is for: versions 1 and 2 are for four. OUT as in play: .wav, .raw or -.
@@ -47,7 +48,7 @@ A STREAM that is a regular file is judged before anything is written. From a pip
 each tick when its last byte is in: the first fault ends it, with how far it came, and OUT keeps the ticks before that. A pipe is read to
 its end, a device to the stream's declared end. A serial device is made ready first, as by stty -F DEVICE raw -echo 57600.
 --float writes 32-bit floats, and with --mono one number a frame, as in play.
---plain prints NUMBER PLACE COUNT, the count in ticks: of a fault as the stream arrives, those before it.
+--plain prints NUMBER PLACE COUNT, the count in ticks: of a fault as the stream arrives, those before it. --json prints one object.
 
 Example:
   lampthistle board song.stream song.mod --out song.wav
@@ -70,7 +71,10 @@ fn run_translate(words: &Words) -> Result<bool, Stop> {
     let stream = translated(&source, ticks)?;
     write_bytes(out, &[&source], &stream)?;
     let bytes = stream.len();
-    let text = if words.plain {
+    let text = if words.json {
+        let counts = vec![("ticks", ticks.into()), ("bytes", bytes.into())];
+        report::written(&source.name, out, counts)
+    } else if words.plain {
         plain_accepted(bytes as u64)
     } else {
         let ticks = counted(ticks.into(), "tick");
@@ -114,16 +118,21 @@ fn run_board(words: &Words) -> Result<bool, Stop> {
     let names = words.files(["STREAM", "FILE"])?;
     input::check_once(&names)?;
     let about = input::about(names[0])?;
-    let (name, played) = if about.is_file() {
+    let ([stream, module], played) = if about.is_file() {
         play_whole(names, kind, out)?
     } else {
         let stays_open = about.file_type().is_char_device();
         play_arriving(names, stays_open, kind, out)?
     };
-    let text = if words.plain {
+    let text = if words.json {
+        let mut about = module.fields(["module", "module_bytes"]);
+        about.extend(board::came(played.ticks, played.bytes));
+        about.push(("frames", played.frames.into()));
+        report::written(&stream, out, about)
+    } else if words.plain {
         plain_accepted(played.ticks)
     } else {
-        output::played(&name, played.ticks, played.frames)
+        output::played(&stream, played.ticks, played.frames)
     };
     tell(words, &text).map(|()| true)
 }
@@ -132,11 +141,12 @@ fn run_board(words: &Words) -> Result<bool, Stop> {
 #[derive(Default)]
 struct Played {
     ticks: u64,
+    bytes: u64,
     frames: u64,
 }
 
-/// Plays a stream that is at hand, and so judged before anything is written; its name.
-fn play_whole(names: [&OsStr; 2], kind: Kind, out: &OsStr) -> Result<(String, Played), Stop> {
+/// Plays a stream that is at hand, and so judged before anything is written; its name and the module's.
+fn play_whole(names: [&OsStr; 2], kind: Kind, out: &OsStr) -> Result<([Name; 2], Played), Stop> {
     let (stream, file) = (input::open(names[0])?.whole()?, input::module(names[1])?);
     let _ = board::judge(&stream, &file)?;
     let frames = records::frames(&stream.bytes);
@@ -146,16 +156,16 @@ fn play_whole(names: [&OsStr; 2], kind: Kind, out: &OsStr) -> Result<(String, Pl
     let mut played = Played::default();
     render(line, &file, kind, &mut sound, &mut played)?;
     sound.finish()?;
-    Ok((stream.name, played))
+    Ok(([stream.name, file.name], played))
 }
 
-/// Plays a stream while it arrives; its name. However it ends, the sound before that stands.
+/// Plays a stream while it arrives; its name and the module's. However it ends, the sound before that stands.
 fn play_arriving(
     names: [&OsStr; 2],
     stays_open: bool,
     kind: Kind,
     out: &OsStr,
-) -> Result<(String, Played), Stop> {
+) -> Result<([Name; 2], Played), Stop> {
     let file = input::module(names[1])?;
     let _ = file.judge()?;
     let stream = input::open(names[0])?;
@@ -170,7 +180,7 @@ fn play_arriving(
     if ended.is_ok() || played.ticks > 0 {
         sound.finish()?;
     }
-    ended.map(|()| (stream.name, played))
+    ended.map(|()| ([stream.name, file.name], played))
 }
 
 /// Plays the stream of a line to the sound file, and counts what is played.
@@ -202,5 +212,6 @@ fn render_with<N: Number>(
         played.frames += (numbers.len() / kind.sides()) as u64;
         progress.show("ticks", played.ticks, board.all_ticks());
     }
+    played.bytes = board.bytes_taken();
     Ok(())
 }

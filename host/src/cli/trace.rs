@@ -3,6 +3,7 @@ use super::input::{self, Source};
 use super::json::{self, Fields, Value};
 use super::layout;
 use super::length::ticks_asked;
+use super::name::FILE;
 use super::output::say;
 use super::records::{channels, records, version, Command as Registers, Lengths, Record};
 use super::report::plain_accepted;
@@ -17,7 +18,7 @@ use lampthistle::State;
 pub const COMMAND: Command = Command {
     name: "trace",
     options: &["--ticks"],
-    flags: &["--once", "--waves", "--json"],
+    flags: &["--once", "--waves"],
     help: "\
 lampthistle trace FILE [--once | --ticks N] [--waves] [--plain | --json]
 
@@ -238,8 +239,8 @@ fn fields(source: &Source, tick: &Tick) -> Fields {
         fields.extend(waves::fields(tick.state.as_ref(), channel));
         fields
     });
-    vec![
-        ("file", source.name.as_str().into()),
+    let mut fields = source.name.fields(FILE);
+    fields.extend([
         ("tick", tick.number.into()),
         ("position", tick.place.map(|(position, _)| position).into()),
         ("row", tick.place.map(|(_, row)| row).into()),
@@ -247,5 +248,6 @@ fn fields(source: &Source, tick: &Tick) -> Fields {
         ("remainder", tick.remainder.into()),
         ("frames", tick.frames.into()),
         ("channels", Value::list(channels)),
-    ]
+    ]);
+    fields
 }

@@ -13,7 +13,7 @@ use lampthistle::{Answer, Cause};
 pub const COMMAND: Command = Command {
     name: "why",
     options: &["--ticks", "--channel"],
-    flags: &["--json"],
+    flags: &[],
     help: "\
 lampthistle why FILE [--ticks N] [--channel C] [--plain | --json]
 

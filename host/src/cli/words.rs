@@ -16,9 +16,8 @@ pub struct Words {
 
 /// Options of every command.
 const PLAIN: &str = "--plain";
-const HELP: &str = "--help";
-/// An option of those commands that name it.
 const JSON: &str = "--json";
+const HELP: &str = "--help";
 /// Short names of options.
 const SHORT: [(&str, &str); 2] = [("-h", HELP), ("-o", "--out")];
 
@@ -66,7 +65,7 @@ impl Words {
         let short = SHORT.iter().find(|(short, _)| given == *short);
         let name = short.map_or(given, |(_, long)| OsStr::new(long));
         let named = |options: &[&'static str]| options.iter().copied().find(|o| name == *o);
-        if let Some(flag) = named(&[PLAIN, HELP]).or_else(|| named(command.flags)) {
+        if let Some(flag) = named(&[PLAIN, JSON, HELP]).or_else(|| named(command.flags)) {
             if value.is_some() {
                 return Err(Stop::Usage(format!("{flag} takes no value")));
             }

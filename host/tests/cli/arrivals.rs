@@ -170,6 +170,28 @@ fn faults_come_after_the_sound_before_them() {
 }
 
 #[test]
+fn objects_say_how_far_a_stream_came() {
+    let (module, folder) = (stored("flow"), folder("arrival_objects"));
+    let good = stream(&module, "3");
+    let (all, cut) = (good.len(), good.len() - 1);
+    let sound = folder.join("came.raw");
+    let out = sound.to_str().unwrap();
+    let start = r#"{"schema":1,"file":"standard input","number":"#;
+    let accepted = format!(
+        r#"{start}0,"place":0,"meaning":"accepted","module":"{module}","ticks_played":3,"bytes_taken":{all},"frames":1411,"out":"{out}"}}"#
+    );
+    let meaning =
+        "the stream is shorter than 9 bytes, or its length is not 4 plus its first number";
+    let refused = format!(
+        r#"{start}21,"place":{cut},"meaning":"{meaning}","ticks_played":2,"bytes_taken":{cut}}}"#
+    );
+    for (bytes, status, object) in [(all, 0, accepted), (cut, 1, refused)] {
+        let told = told_of(&good[..bytes], &module, &["--json", "--out", out]);
+        assert_eq!(told, (status, object + "\n", String::new()));
+    }
+}
+
+#[test]
 fn without_a_tick_nothing_is_written() {
     let (module, folder) = (stored("flow"), folder("arrival_nothing"));
     let good = stream(&module, "3");

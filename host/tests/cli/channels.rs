@@ -144,7 +144,7 @@ fn a_stream_of_another_count_is_refused() {
     std::fs::write(&stream, &bytes).unwrap();
     let (status, out, _) = told(&["trace", "--json", &stream]);
     let line = format!(
-        r#"{{"file":"{stream}","number":28,"place":4,"meaning":"{words}","version":3,"channels":5}}"#
+        r#"{{"schema":1,"file":"{stream}","number":28,"place":4,"meaning":"{words}","version":3,"channels":5}}"#
     );
     assert_eq!((status, out.trim_end()), (1, line.as_str()));
     std::fs::write(&stream, [0, 0, 0, 5, 3, 4, 0, 0, 0]).unwrap();

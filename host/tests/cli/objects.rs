@@ -1,5 +1,5 @@
 //! The objects of --json.
-use crate::common::{ended, own, quiet, stored, told};
+use crate::common::{ended, own, quiet, run, stored, told};
 
 /// Runs with --json and gives the status and the lines.
 fn lines(words: &[&str]) -> (i32, Vec<String>) {
@@ -18,10 +18,12 @@ fn judge_prints_an_object_a_file() {
     assert_eq!(
         lines,
         [
-            format!(r#"{{"file":"{good}","number":0,"place":0,"meaning":"accepted","notes":[]}}"#),
-            r#"{"file":"no/such","error":"No such file or directory"}"#.into(),
             format!(
-                r#"{{"file":"{bad}","number":9,"place":1084,"meaning":"{meaning}","pattern":0,"row":0,"channel":1,"period":857}}"#
+                r#"{{"schema":1,"file":"{good}","number":0,"place":0,"meaning":"accepted","notes":[]}}"#
+            ),
+            r#"{"schema":1,"file":"no/such","error":"No such file or directory"}"#.into(),
+            format!(
+                r#"{{"schema":1,"file":"{bad}","number":9,"place":1084,"meaning":"{meaning}","pattern":0,"row":0,"channel":1,"period":857}}"#
             ),
         ]
     );
@@ -32,7 +34,9 @@ fn info_prints_one_object() {
     let name = quiet("info_object.mod", &[0, 0, 0x08, 0x11]);
     let (status, lines) = lines(&["info", &name]);
     let parts = [
-        format!(r#"{{"file":"{name}","number":0,"place":0,"meaning":"accepted","title":"","#),
+        format!(
+            r#"{{"schema":1,"file":"{name}","number":0,"place":0,"meaning":"accepted","title":"","#
+        ),
         r#""channels":4,"song_length":1,"patterns":1,"table":[0],"ticks":384,"frames":368640,"#
             .into(),
         r#""comes_back_to":{"position":0,"row":0},"samples":[],"#.into(),
@@ -51,7 +55,7 @@ fn trace_prints_an_object_a_tick() {
     assert_eq!((status, lines.len()), (0, 2));
     let name = stored("effects");
     let start = format!(
-        r#"{{"file":"{name}","tick":0,"position":0,"row":0,"tempo":255,"remainder":150,"frames":470,"channels":["#
+        r#"{{"schema":1,"file":"{name}","tick":0,"position":0,"row":0,"tempo":255,"remainder":150,"frames":470,"channels":["#
     );
     let waves = r#""vibrato":{"x":0,"y":0,"place":0,"form":"sine"},"tremolo":{"x":0,"y":0,"place":0,"form":"sine"}}"#;
     let channel =
@@ -69,12 +73,12 @@ fn why_prints_an_object_a_channel() {
     let (status, lines) = lines(&["why", &name, "--ticks", "3"]);
     assert_eq!((status, lines.len()), (0, 4));
     let start = format!(
-        r#"{{"file":"{name}","number":0,"place":0,"meaning":"accepted","ticks":3,"channel":4,"#
+        r#"{{"schema":1,"file":"{name}","number":0,"place":0,"meaning":"accepted","ticks":3,"channel":4,"#
     );
     assert_eq!(lines[3], start + r#""cause":1,"says":"it has no sample"}"#);
     let (status, lines) = self::lines(&["why", &name, "--channel", "5"]);
     let line = format!(
-        r#"{{"file":"{name}","number":25,"place":0,"meaning":"the module has no channel of this number","channels":4}}"#
+        r#"{{"schema":1,"file":"{name}","number":25,"place":0,"meaning":"the module has no channel of this number","channels":4}}"#
     );
     assert_eq!((status, lines), (1, vec![line]));
 }
@@ -86,7 +90,7 @@ fn replay_prints_an_object_a_call() {
     let (script, name) = (script.to_str().unwrap(), stored("flow"));
     let (status, lines) = lines(&["replay", &name, script]);
     let line = format!(
-        r#"{{"file":"{name}","number":16,"place":0,"meaning":"the touch was made on another page","count":0,"call":"touch 1 5 0","clock":5,"page":0,"position":0,"row":1,"tick":2,"sound":""#
+        r#"{{"schema":1,"file":"{name}","number":16,"place":0,"meaning":"the touch was made on another page","count":0,"call":"touch 1 5 0","clock":5,"page":0,"position":0,"row":1,"tick":2,"sound":""#
     );
     assert_eq!((status, lines.len()), (0, 2));
     assert!(lines[1].starts_with(&line), "{}", lines[1]);
@@ -95,7 +99,7 @@ fn replay_prints_an_object_a_call() {
     assert_eq!(told(&["replay", &name, script, "--record", record]).0, 0);
     let (status, lines) = self::lines(&["replay", &name, record, "--check"]);
     let line = format!(
-        r#"{{"file":"{record}","came_again":true,"calls":2,"ticks":5,"line":null,"difference":null}}"#
+        r#"{{"schema":1,"file":"{record}","came_again":true,"calls":2,"ticks":5,"line":null,"difference":null}}"#
     );
     assert_eq!((status, lines), (0, vec![line]));
     let text = std::fs::read_to_string(record).unwrap();
@@ -110,7 +114,7 @@ fn compare_prints_one_object() {
     let name = stored("effects");
     let (status, lines) = lines(&["compare", &name, "--ticks", "20"]);
     let line = format!(
-        r#"{{"file":"{name}","number":0,"place":0,"meaning":"accepted","with":"board","equal":true,"ticks":20,"frames":9411,"asked_ticks":20,"song_ticks":null}}"#
+        r#"{{"schema":1,"file":"{name}","number":0,"place":0,"meaning":"accepted","with":"board","equal":true,"ticks":20,"frames":9411,"asked_ticks":20,"song_ticks":null}}"#
     );
     assert_eq!((status, lines), (0, vec![line]));
     let sound = own("object.raw");
@@ -129,10 +133,34 @@ fn compare_prints_one_object() {
 }
 
 #[test]
+fn written_files_are_objects_too() {
+    let (module, stream) = (&stored("effects"), "object.stream");
+    let words = ["translate", module, "--ticks=3", "--out", stream];
+    let accepted = r#""number":0,"place":0,"meaning":"accepted","#;
+    let line = format!(
+        r#"{{"schema":1,"file":"{module}",{accepted}"ticks":3,"bytes":40,"out":"{stream}"}}"#
+    );
+    assert_eq!(lines(&words), (0, vec![line]));
+    let words = ["play", module, "--ticks=3", "--out", "object_3.raw"];
+    let line = format!(
+        r#"{{"schema":1,"file":"{module}",{accepted}"ticks":3,"frames":1411,"out":"object_3.raw"}}"#
+    );
+    assert_eq!(lines(&words), (0, vec![line]));
+    // Beside the sound on standard output the object goes to standard error.
+    let output = run(&["board", stream, module, "--out", "-", "--json"]);
+    assert_eq!(output.stdout.len(), 4 * 1_411);
+    let told = String::from_utf8(output.stderr).unwrap();
+    let line = format!(
+        r#"{{"schema":1,"file":"{stream}",{accepted}"module":"{module}","ticks_played":3,"bytes_taken":40,"frames":1411,"out":"-"}}"#
+    );
+    assert_eq!(told, line + "\n");
+}
+
+#[test]
 fn a_refusal_is_an_object_too() {
     for command in ["info", "trace", "why", "compare"] {
         let (status, lines) = lines(&[command, "/dev/null"]);
-        let line = r#"{"file":"/dev/null","number":1,"place":0,"meaning":"the file is shorter than 1,084 bytes"}"#;
+        let line = r#"{"schema":1,"file":"/dev/null","number":1,"place":0,"meaning":"the file is shorter than 1,084 bytes"}"#;
         assert_eq!((status, lines), (1, vec![line.to_string()]), "{command}");
     }
     let (status, _, err) = told(&["judge", "--plain", "--json", "x"]);

@@ -129,7 +129,11 @@ fn standard_input_is_read_once() {
 }
 
 /// Command lines that are wrong, and what the message says.
-const WRONG: [(&str, &str); 18] = [
+const WRONG: [(&str, &str); 22] = [
+    ("--version x", "--version: one word too many: x"),
+    ("--help judge", "--help: one word too many: judge"),
+    ("help judge info", "help: one word too many: info"),
+    ("help sing", "no such command: sing"),
     ("play", "no --out"),
     ("play --out x.raw", "no FILE"),
     ("play MODULE --out", "--out needs a value"),
