@@ -18,8 +18,8 @@ pub const COMMAND: Command = Command {
 lampthistle info [--plain | --json] FILE
 
 Shows a module's title, channel count, song length, pattern count and table; how long it plays until it comes back to a place where it
-has been; its samples with lengths, in bytes, volumes, finetunes, -8 to 7, and loops; and what it asks for that does nothing here, as
-judge --notes does.
+has been; its samples with lengths, in bytes, volumes, finetunes, -8 to 7, and loops; and what it asks for that does nothing here or that
+other players do otherwise, as judge --notes does.
 --plain prints NUMBER PLACE COUNT of the judging; then song length, pattern count and channel count; the played table entries; ticks and
 frames until it comes back, and that position and row, or - - - - if it does not; a line a sample that has bytes: its number, length,
 volume, loop start and loop length, 0 0 without a loop, and finetune; and a line a note: note EFFECT CELLS PATTERN ROW CHANNEL.

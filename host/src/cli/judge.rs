@@ -18,8 +18,8 @@ lampthistle judge [--notes] [--plain | --json] FILE..
 
 Says whether each file is a module that can be played: a line a file, accepted, or the refusal's number, place and meaning, and what
 stands there.
---notes adds a line for each effect that an accepted module asks for and that does nothing here: in how many cells of the played
-patterns, and where first.
+--notes adds a line for each effect that an accepted module asks for and that does nothing here, or that other players do otherwise, F00
+and two of E6 in one row: in how many cells of the played patterns, and where first.
 --plain prints NUMBER PLACE COUNT NAME instead, and - - - NAME for a file that cannot be read; a note is
 note EFFECT CELLS PATTERN ROW CHANNEL NAME.
 --json prints an object a file.

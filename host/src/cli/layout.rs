@@ -109,6 +109,7 @@ pub struct Cell {
     pub period: u16,
     /// E0 to EF are 0xE0 to 0xEF.
     pub effect: u8,
+    pub parameter: u8,
 }
 
 /// The cell at a byte of the patterns of so many channels.
@@ -133,6 +134,7 @@ pub fn cell(file: &[u8], place: usize) -> Cell {
         } else {
             effect
         },
+        parameter: b3,
     }
 }
 

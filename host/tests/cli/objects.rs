@@ -40,7 +40,7 @@ fn info_prints_one_object() {
         r#""channels":4,"song_length":1,"patterns":1,"table":[0],"ticks":384,"frames":368640,"#
             .into(),
         r#""comes_back_to":{"position":0,"row":0},"samples":[],"#.into(),
-        r#""notes":[{"effect":"8","name":"panning","cells":1,"pattern":0,"row":0,"channel":1}]}"#
+        r#""notes":[{"effect":"8","name":"panning","says":"does nothing","cells":1,"pattern":0,"row":0,"channel":1}]}"#
             .into(),
     ];
     assert_eq!((status, lines), (0, vec![parts.concat()]));

@@ -119,6 +119,33 @@ fn notes_say_what_does_nothing() {
     assert_eq!(told(&["judge", name]).1, format!("{name}: accepted\n"));
 }
 
+#[test]
+fn notes_say_what_other_players_do_otherwise() {
+    let [stop, loops, loop_start, speed] = [0xF00, 0xE62, 0xE60, 0xF06];
+    // Two of E6 in row 0; F00 and E6 alone in row 1; three of E6 in row 2.
+    let row = |effects: [u16; 4]| effects.map(|e| [0, 0, (e >> 8) as u8, e as u8]).concat();
+    let cells = [
+        row([0, loop_start, speed, loops]),
+        row([stop, 0, loops, 0]),
+        row([loops, loops, stop, loop_start]),
+    ];
+    let name = &quiet("otherwise.mod", &cells.concat());
+    let lines = [
+        "effect F00 (speed 0) sets speed 1; other players stop, or pass over it: 2 cells, first in pattern 0, row 1, channel 1",
+        "effect E6 (pattern loop) stands twice in a row, with one count for the song; other players count by channel: 5 cells, \
+            first in pattern 0, row 0, channel 2",
+    ];
+    let (status, out, _) = told(&["judge", "--notes", name]);
+    let all: String = lines.map(|line| format!("{name}: {line}\n")).concat();
+    assert_eq!((status, out), (0, format!("{name}: accepted\n{all}")));
+    let (_, out, _) = told(&["judge", "--notes", "--plain", name]);
+    let notes = format!("0 0 0 {name}\nnote F00 2 0 1 1 {name}\nnote E6 5 0 0 2 {name}\n");
+    assert_eq!(out, notes);
+    let alone = &quiet("alone.mod", &row([0, loops, speed, 0]));
+    let (_, out, _) = told(&["judge", "--notes", alone]);
+    assert_eq!(out, format!("{alone}: accepted\n"));
+}
+
 /// A change to a good file, and what its refusal says.
 const PLACES: [(usize, &[u8], &str); 7] = [
     (
