@@ -59,3 +59,22 @@ pub fn once(source: &Source) -> Result<u32, Stop> {
         ))),
     }
 }
+
+/// The ticks up to the first one of a position, with a row of a row there, and with it.
+pub fn ticks_to(source: &Source, position: u32, row: Option<u32>) -> Result<u32, Stop> {
+    let most = course(source)?.map_or(MOST_TICKS, |course| course.ticks.into());
+    let mut song = Song::silent(&source.bytes);
+    for ticks in 1..=most {
+        let state = &song.state;
+        if state.position() == position && row.is_none_or(|row| state.row() == row) {
+            return Ok(ticks as u32);
+        }
+        let next = song.next(TICK_FRAMES);
+        let _ = next.map_err(|answer| source.refused(answer))?;
+    }
+    let row = row.map_or(String::new(), |row| format!(", row {row}"));
+    Err(Stop::Cannot(format!(
+        "{}: does not come to position {position}{row} within {most} ticks",
+        source.name
+    )))
+}

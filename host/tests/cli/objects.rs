@@ -73,7 +73,7 @@ fn why_prints_an_object_a_channel() {
     let (status, lines) = lines(&["why", &name, "--ticks", "3"]);
     assert_eq!((status, lines.len()), (0, 4));
     let start = format!(
-        r#"{{"schema":1,"file":"{name}","number":0,"place":0,"meaning":"accepted","ticks":3,"channel":4,"#
+        r#"{{"schema":1,"file":"{name}","number":0,"place":0,"meaning":"accepted","ticks":3,"position":0,"row":0,"channel":4,"#
     );
     assert_eq!(lines[3], start + r#""cause":1,"says":"it has no sample"}"#);
     let (status, lines) = self::lines(&["why", &name, "--channel", "5"]);

@@ -45,6 +45,73 @@ fn the_ticks_are_played_first() {
     }
 }
 
+/// The causes after so many ticks, as plain lines.
+fn after(module: &str, words: &[&str]) -> String {
+    let (status, out, err) = told(&[&["why", module, "--plain"], words].concat());
+    assert_eq!((status, err.as_str()), (0, ""), "{words:?}");
+    out
+}
+
+#[test]
+fn seconds_and_places_need_no_ticks() {
+    // At tempo 255 four ticks are 1,882 frames: 0.0392083 seconds.
+    let module = &stored("flow");
+    for (words, ticks) in [
+        (&["--seconds", "0.0392083"][..], "3"),
+        (&["--seconds", "0.0392084"], "4"),
+        (&["--seconds", "0"], "0"),
+        (&["--position", "0"], "1"),
+        (&["--position", "0", "--row", "1"], "4"),
+    ] {
+        assert_eq!(after(module, words), after(module, &["--ticks", ticks]));
+    }
+    let (_, out, _) = told(&["why", module, "--seconds", "0.0392084"]);
+    let (line, causes) = out.split_once('\n').unwrap();
+    assert_eq!(line, "after 4 ticks, 0.039 seconds, in position 0, row 1");
+    assert_eq!(causes, told(&["why", module, "--ticks", "4"]).1);
+    let (_, out, _) = told(&["why", module, "--seconds", "0"]);
+    let line = "after 0 ticks, 0.000 seconds, before the first row\n";
+    assert!(out.starts_with(line), "{out}");
+    // Each position that trace shows is found at its first tick.
+    let (_, trace, _) = told(&["trace", module, "--once", "--plain"]);
+    let mut found = Vec::new();
+    for line in trace.lines().skip(1) {
+        let words: Vec<&str> = line.split(' ').collect();
+        if !found.contains(&words[1]) {
+            found.push(words[1]);
+            let (_, out, _) = told(&["why", module, "--position", words[1]]);
+            let ticks = words[0].parse::<u32>().unwrap() + 1;
+            let unit = if ticks == 1 { "tick" } else { "ticks" };
+            let start = format!("after {ticks} {unit}, ");
+            assert!(out.starts_with(&start), "{out}");
+        }
+    }
+    assert!(found.len() > 1);
+}
+
+#[test]
+fn places_that_a_song_does_not_come_to_are_told() {
+    let module = &stored("flow");
+    for (words, reason) in [
+        (
+            &["--position", "99"][..],
+            "does not come to position 99 within ",
+        ),
+        (
+            &["--position", "0", "--row", "64"],
+            "position 0, row 64 within",
+        ),
+        (&["--row", "1"], "--row goes with --position"),
+        (&["--position", "1", "--ticks", "1"], "exclude each other"),
+        (&["--seconds", "1", "--ticks", "1"], "exclude each other"),
+        (&["--position", "first"], "--position: not a number"),
+    ] {
+        let (status, out, err) = told(&[&["why", module], words].concat());
+        assert_eq!((status, out.as_str()), (2, ""), "{words:?}");
+        assert!(err.contains(reason), "{err}");
+    }
+}
+
 #[test]
 fn a_byte_that_reads_0_is_a_cause() {
     let module = ending("zeros.mod", &[1, 0xAC, 0x10, 0]);

@@ -151,7 +151,9 @@ fn objects() -> Vec<(Vec<&'static str>, String)> {
     add(&["Answers", "board"], &board);
     add(&["trace"], &["trace", FLOW].map(word));
     add(&["trace"], &[word("trace"), stream.as_os_str()]);
-    add(&["Answers", "why"], &["why", FLOW].map(word));
+    for ticks in ["--ticks=0", "--seconds=1"] {
+        add(&["Answers", "why"], &["why", FLOW, ticks].map(word));
+    }
     for script in [SCRIPT, &asked] {
         add(&["Answers", "replay"], &["replay", FLOW, script].map(word));
     }
