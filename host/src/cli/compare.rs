@@ -1,45 +1,58 @@
-//! compare FILE: the player, number by number, with the sound board, a given stream or a recording.
+//! compare FILE: the player, number by number, with the sound board, a given stream or a recording; or two recordings.
 use super::board::{self, Board, Line};
+use super::compared::{Compared, End, Pair};
 use super::course::{course, MOST_TICKS};
 use super::input::{self, Source};
-use super::json::{self, Fields, Value};
 use super::length::ticks_asked;
 use super::name::Name;
 use super::number::{Kind, Number, FLOAT, MONO_FLAG};
-use super::output::{counted, say};
+use super::offset::{Beginning, Offset};
+use super::output::counted;
 use super::progress::Progress;
 use super::recording::{self, Recording};
+use super::recordings;
 use super::records;
-use super::report::{self, plain_accepted};
 use super::song::{Song, TICK_FRAMES};
+use super::sound::Format;
 use super::stop::Stop;
 use super::stream::translated_for;
+use super::tally::{Place, Tally, Tick};
 use super::words::Words;
 use super::Command;
+use lampthistle::RATE;
 use std::ffi::OsString;
 
 pub const COMMAND: Command = Command {
     name: "compare",
-    options: &["--ticks"],
+    options: &["--ticks", "--offset"],
     flags: &["--once", FLOAT, MONO_FLAG],
     help: "\
-lampthistle compare FILE [--once | --ticks N] [--float [--mono]] [--plain | --json]
-lampthistle compare FILE STREAM [--once | --ticks N] [--float [--mono]] [--plain | --json]
-lampthistle compare FILE SOUND.raw|SOUND.wav [--once | --ticks N] [--float [--mono]] [--plain | --json]
+lampthistle compare FILE [STREAM] [--once | --ticks N] [--float [--mono]] [--plain | --json]
+lampthistle compare FILE SOUND.raw|SOUND.wav [--once | --ticks N] [--offset search | --offset K] [--float [--mono]] [--plain | --json]
+lampthistle compare SOUND SOUND [--offset search | --offset K] [--float [--mono]] [--plain | --json]
 
-Plays the module and says that something else sounds the same, number by number, or where they first differ: the tick, and the frame in
-it and from the beginning. The other is
+Plays the module and says that something else sounds the same, number by number, or how they differ: where first and where last, with tick,
+position and row, in how many frames, and by how much at most. The other is
   without a second file, the board with the module's own stream: of N ticks, 1,000 without --ticks and 65,535 at most;
   with a STREAM, the board with that stream and the module's samples;
   with a SOUND, a recording of 48,000 frames a second; a .wav file on standard input, named -, is one, too.
+Two recordings are compared in the same way, without places of a song.
 All of the other is compared, and how long the song is once through is said beside it. With --ticks N the other must have N ticks: one
 that ends before or goes on is different. --once asks for the ticks until the song comes back to a place where it has been, as info tells.
+A hint follows where the cause is simple: sides swapped, a side silent, all numbers times a factor, a recording that began late or early,
+another end.
+--offset search finds the frame of the song at which a recording begins, up to the song's end once through, or how many frames of silence
+stand before the song, and compares from there on; of two recordings within their first ten seconds. --offset K says it: K frames of the
+first sound are left out, or with a K below 0 so many of the other.
 --float compares the frames as 32-bit floats, bit for bit, and with --mono one number a frame, as play writes them.
---plain prints NUMBER PLACE COUNT, the count in ticks; a difference is told on standard error. --json prints one object.
+--plain prints NUMBER PLACE COUNT, the count in ticks, of two recordings in frames; a difference is told on standard error. --json prints
+one object.
 
-Example:
+Examples:
   lampthistle compare song.mod --ticks 3000
   song.mod: 3000 ticks, 2880000 frames: player and board are equal
+  lampthistle compare song.mod late.wav --offset search
+  song.mod: 3 ticks, 3480 frames: player and late.wav are equal from frame 120 on; the song once through is 1470 ticks
 
 Exit status: 0 equal; 1 refused or different; 2 wrong use, or a file that cannot be read.
 ",
@@ -78,34 +91,10 @@ impl<N: Number> Other<'_, N> {
     }
 }
 
-/// Whole ticks and frames that are equal, and the first difference.
-#[derive(Default)]
-struct Outcome {
-    ticks: u64,
-    frames: u64,
-    difference: Option<Difference>,
-}
-
-/// How the other differs.
-enum How {
-    Numbers,
-    /// It ends before the ticks that were asked for.
-    Ends,
-    /// It goes on after them.
-    GoesOn,
-}
-
-/// Numbers that are not the same, of a frame of the tick; none where one side has no such frame.
-struct Difference {
-    how: How,
-    frame: usize,
-    side: &'static str,
-    player: Option<Value>,
-    other: Option<Value>,
-}
-
+/// Frames of a recording by which it is searched for, and of two recordings those that are searched.
+pub const LOOK_AHEAD: usize = 10 * RATE as usize;
 /// How long the other is to be.
-enum Length {
+pub enum Length {
     /// So many ticks, as was asked for.
     Asked(u32),
     /// As long as it is, beside a song of so many ticks once through; none where it does not come back.
@@ -122,14 +111,14 @@ impl Length {
         }
     }
 
-    fn asked(&self) -> Option<u32> {
+    pub fn asked(&self) -> Option<u32> {
         match self {
             Length::Asked(ticks) => Some(*ticks),
             Length::Whole(_) => None,
         }
     }
 
-    fn song(&self) -> Option<u32> {
+    pub fn song(&self) -> Option<u32> {
         match self {
             Length::Asked(_) => None,
             Length::Whole(song) => *song,
@@ -137,7 +126,7 @@ impl Length {
     }
 
     /// How much of the song the whole of the other is, for the end of a line.
-    fn beside(&self) -> String {
+    pub fn beside(&self) -> String {
         match self {
             Length::Asked(_) => String::new(),
             Length::Whole(Some(song)) => {
@@ -161,6 +150,7 @@ fn run(words: &Words) -> Result<bool, Stop> {
 
 /// Compares numbers of this kind.
 fn run_with<N: Number>(words: &Words, kind: Kind) -> Result<bool, Stop> {
+    let offset = Offset::asked(words)?;
     let second = match words.files.len() {
         0 | 1 => None,
         _ => Some(words.files(["FILE", "STREAM or SOUND"])?[1]),
@@ -168,6 +158,9 @@ fn run_with<N: Number>(words: &Words, kind: Kind) -> Result<bool, Stop> {
     let Some(first) = words.files.first().map(OsString::as_os_str) else {
         return Err(Stop::Usage("no FILE".into()));
     };
+    if let Some(format) = Format::of(first) {
+        return recordings::run::<N>(words, kind, (first, format), second, offset);
+    }
     let Some(second) = second else {
         let file = input::module(first)?;
         let _ = file.judge()?;
@@ -191,10 +184,18 @@ fn run_with<N: Number>(words: &Words, kind: Kind) -> Result<bool, Stop> {
         Some(format) => {
             let _ = file.judge()?;
             let recording = Recording::<N>::of(other, format, kind)?;
-            let (name, length) = (recording.name.clone(), Length::of(words, &file)?);
-            let outcome = compare(&file, kind, Other::Recording(recording), length.asked())?;
-            tell(words, &file, &name, &length, &outcome)
+            let length = Length::of(words, &file)?;
+            with_recording(words, &file, kind, recording, &length, offset)
         }
+    }
+}
+
+/// The player of a module and something else.
+fn pair<'a>(file: &'a Name, other: &'a Name, length: &'a Length) -> Pair<'a> {
+    Pair {
+        file,
+        other,
+        length: Some(length),
     }
 }
 
@@ -206,10 +207,93 @@ fn with_board<N: Number>(
     (name, stream): (&Name, &[u8]),
     length: &Length,
 ) -> Result<bool, Stop> {
+    if words.value("--offset").is_some() {
+        return Err(Stop::Usage("--offset goes with a recording".into()));
+    }
     let board = Board::<N>::new(Line::of(name, stream), file, kind.sides());
     let other = Other::Board(Box::new(board), records::ticks(stream));
-    let outcome = compare(file, kind, other, length.asked())?;
-    tell(words, file, name, length, &outcome)
+    let compared = compare(file, kind, other, length.asked(), None)?;
+    pair(&file.name, name, length).tell(words, &compared)
+}
+
+fn with_recording<N: Number>(
+    words: &Words,
+    file: &Source,
+    kind: Kind,
+    mut recording: Recording<N>,
+    length: &Length,
+    offset: Offset,
+) -> Result<bool, Stop> {
+    let name = recording.name.clone();
+    let ahead = recording.look_ahead(LOOK_AHEAD * kind.sides())?;
+    let search = || search_song(file, kind, &ahead);
+    let frames = offset.frames(search)?;
+    let other = Other::Recording(recording);
+    let mut compared = compare(file, kind, other, length.asked(), frames)?;
+    if compared.is_unexplained() && frames.is_none() {
+        compared.found = search_song(file, kind, &ahead)?.filter(|&frames| frames != 0);
+    }
+    pair(&file.name, &name, length).tell(words, &compared)
+}
+
+/// The frame of the song at which a recording of this beginning sets in, within the song once through.
+fn search_song<N: Number>(file: &Source, kind: Kind, ahead: &[N]) -> Result<Option<i64>, Stop> {
+    /// Ticks that are searched at once, more than what is searched for has.
+    const TICKS: u64 = 64;
+    let Some(beginning) = Beginning::of(ahead, kind.sides()) else {
+        return Ok(None);
+    };
+    let most = course(file)?.map_or(MOST_TICKS, |course| course.ticks.into());
+    let mut song = Song::<N>::for_sides(&file.bytes, kind.sides());
+    let (mut played, mut progress) = (0, Progress::new());
+    // A recording may go on where the song comes back.
+    let most = most + TICKS;
+    beginning.search(|heard| {
+        for _ in 0..TICKS.min(most - played) {
+            let next = song.next(TICK_FRAMES);
+            let numbers = next.map_err(|answer| file.refused(answer))?;
+            heard.extend_from_slice(numbers.unwrap_or(&[]));
+            played += 1;
+        }
+        progress.show("ticks searched", played, most);
+        Ok(played < most)
+    })
+}
+
+/// The song as it is compared: tick by tick, without its first frames where an offset leaves them out.
+struct Player<'a, N> {
+    file: &'a Source,
+    song: Song<'a, N>,
+    sides: usize,
+    skip: usize,
+    tick: u64,
+    from_begin: u64,
+}
+
+impl<N: Number> Player<'_, N> {
+    /// The next tick's numbers, where they begin, and whether all of the tick is there.
+    fn next(&mut self) -> Result<(Place, &[N], bool), Stop> {
+        let state = &self.song.state;
+        let tick = Tick {
+            number: self.tick,
+            position: state.position(),
+            row: state.row(),
+        };
+        let played = self.song.next(TICK_FRAMES);
+        let numbers = played.map_err(|answer| self.file.refused(answer))?;
+        let numbers = numbers.unwrap_or(&[]);
+        let frames = numbers.len() / self.sides;
+        let cut = self.skip.min(frames);
+        let place = Place {
+            tick: Some(tick),
+            frame: cut as u64,
+            from_begin: self.from_begin + cut as u64,
+        };
+        self.skip -= cut;
+        self.tick += 1;
+        self.from_begin += frames as u64;
+        Ok((place, &numbers[cut * self.sides..], cut == 0))
+    }
 }
 
 /// Plays the module beside the other, for the ticks that are asked for or until the other ends.
@@ -218,131 +302,48 @@ fn compare<N: Number>(
     kind: Kind,
     mut other: Other<N>,
     asked: Option<u32>,
-) -> Result<Outcome, Stop> {
-    let mut song = Song::<N>::for_sides(&file.bytes, kind.sides());
-    let mut progress = Progress::new();
-    let mut outcome = Outcome::default();
-    let (asked, may_be_cut) = (asked.map(u64::from), other.may_be_cut());
-    let all = asked.or(other.ticks());
-    while asked.is_none_or(|asked| outcome.ticks < asked) {
-        let played = song.next(TICK_FRAMES);
-        let player = played.map_err(|answer| file.refused(answer))?;
-        let mut player = player.unwrap_or(&[]);
-        let heard = other.next(player.len())?;
-        let ended = heard.is_empty() || may_be_cut && heard.len() < player.len();
-        if ended && asked.is_none() {
-            player = &player[..heard.len()];
-        }
-        outcome.add(kind, player, heard, ended);
-        if ended || outcome.difference.is_some() {
-            return Ok(outcome);
-        }
-        progress.show("ticks", outcome.ticks, all.unwrap_or(outcome.ticks));
-    }
-    let more = first_difference(kind, &[], other.next(kind.sides())?);
-    let how = How::GoesOn;
-    outcome.difference = more.map(|found| Difference { how, ..found });
-    Ok(outcome)
-}
-
-impl Outcome {
-    /// The next tick of the player and the other, whose last numbers these may be.
-    fn add<N: Number>(&mut self, kind: Kind, player: &[N], other: &[N], ended: bool) {
-        self.difference = first_difference(kind, player, other);
-        match &mut self.difference {
-            None => {
-                self.ticks += u64::from(!ended);
-                self.frames += (other.len() / kind.sides()) as u64;
-            }
-            Some(found) if ended && found.other.is_none() => found.how = How::Ends,
-            Some(_) => (),
-        }
-    }
-}
-
-fn first_difference<N: Number>(kind: Kind, player: &[N], other: &[N]) -> Option<Difference> {
-    let (longer, sides) = (player.len().max(other.len()), kind.sides());
-    let same = |k: usize| match (player.get(k), other.get(k)) {
-        (Some(one), Some(another)) => one.same(*another),
-        _ => false,
+    offset: Option<i64>,
+) -> Result<Compared, Stop> {
+    let (sides, asked) = (kind.sides(), asked.map(u64::from));
+    let mut compared = Compared::new(Tally::new(kind), offset);
+    let skip = compared.skip(&mut |numbers| Ok(other.next(numbers)?.len()), sides)?;
+    let mut player = Player {
+        file,
+        song: Song::for_sides(&file.bytes, sides),
+        sides,
+        skip,
+        tick: 0,
+        from_begin: 0,
     };
-    let k = (0..longer).find(|&k| !same(k))?;
-    Some(Difference {
-        how: How::Numbers,
-        frame: k / sides,
-        side: kind.side(k % sides),
-        player: player.get(k).map(|number| number.value()),
-        other: other.get(k).map(|number| number.value()),
-    })
-}
-
-/// Tells how the player and the other of this name compare, and gives whether they are equal.
-fn tell(
-    words: &Words,
-    file: &Source,
-    name: &Name,
-    length: &Length,
-    outcome: &Outcome,
-) -> Result<bool, Stop> {
-    let (own, ticks, frames) = (&file.name, outcome.ticks, outcome.frames);
-    let equal = outcome.difference.is_none();
-    if equal && frames == 0 {
-        return Err(Stop::Cannot(format!("{name}: no frame to compare")));
-    }
-    if words.json {
-        say(&json::object(fields(file, name, length, outcome)))?;
-    } else if let Some(found) = &outcome.difference {
-        let difference = difference_line(name, length, outcome, found);
-        Stop::Cannot(format!("{own}: DIFFERENT: {difference}")).tell();
-    } else if words.plain {
-        say(&plain_accepted(ticks))?;
-    } else {
-        let (ticks, frames) = (counted(ticks, "tick"), counted(frames, "frame"));
-        let beside = length.beside();
-        say(&format!(
-            "{own}: {ticks}, {frames}: player and {name} are equal{beside}\n"
-        ))?;
-    }
-    Ok(equal)
-}
-
-fn difference_line(name: &str, length: &Length, outcome: &Outcome, found: &Difference) -> String {
-    let (tick, frame, side) = (outcome.ticks, found.frame, found.side);
-    let from_begin = outcome.frames + frame as u64;
-    let [ticks, frames] = [(tick, "tick"), (from_begin, "frame")].map(|(n, unit)| counted(n, unit));
-    match (&found.how, length.asked()) {
-        (How::Ends, Some(asked)) => {
-            format!("{name} ends after {ticks} of {asked}, {frames} from the beginning")
+    let (mut progress, all) = (Progress::new(), asked.or(other.ticks()));
+    let (mut tick, may_be_cut) = (0, other.may_be_cut());
+    while asked.is_none_or(|asked| tick < asked) {
+        let (place, numbers, is_whole) = player.next()?;
+        if !numbers.is_empty() {
+            let heard = other.next(numbers.len())?;
+            let ended = heard.is_empty() || may_be_cut && heard.len() < numbers.len();
+            let numbers = if ended {
+                &numbers[..heard.len()]
+            } else {
+                numbers
+            };
+            compared.add(place, numbers, heard, is_whole && !ended);
+            if ended {
+                let frames = place.from_begin + (heard.len() / sides) as u64;
+                compared.end = asked.map(|asked| End::Short {
+                    tick,
+                    asked,
+                    frames,
+                });
+                return Ok(compared);
+            }
         }
-        (How::GoesOn, _) => format!("{name} goes on after {ticks}, {frames} from the beginning"),
-        _ => {
-            let [player, other] = [&found.player, &found.other].map(|number| match number {
-                Some(number) => number.bare(),
-                None => "none".into(),
-            });
-            format!("tick {tick}, frame {frame} ({from_begin} from the beginning), {side}: player {player}, {name} {other}")
-        }
+        tick = player.tick;
+        progress.show("ticks", tick, all.unwrap_or(tick));
     }
-}
-
-fn fields(file: &Source, name: &Name, length: &Length, outcome: &Outcome) -> Fields {
-    let mut fields = report::accepted(&file.name);
-    fields.extend(name.fields(["with", "with_bytes"]));
-    fields.extend([
-        ("equal", outcome.difference.is_none().into()),
-        ("ticks", outcome.ticks.into()),
-        ("frames", outcome.frames.into()),
-        ("asked_ticks", length.asked().into()),
-        ("song_ticks", length.song().into()),
-    ]);
-    if let Some(found) = &outcome.difference {
-        fields.extend([
-            ("tick", outcome.ticks.into()),
-            ("frame", found.frame.into()),
-            ("side", found.side.into()),
-            ("player", found.player.clone().into()),
-            ("other", found.other.clone().into()),
-        ]);
+    if !other.next(sides)?.is_empty() {
+        let frames = player.from_begin;
+        compared.end = Some(End::Long { tick, frames });
     }
-    fields
+    Ok(compared)
 }

@@ -94,7 +94,7 @@ macro_rules! from_numbers {
         })*
     };
 }
-from_numbers!(u8, u16, u32, u64, i8, i16, i32);
+from_numbers!(u8, u16, u32, u64, i8, i16, i32, i64);
 
 impl fmt::Display for Value {
     fn fmt(&self, f: &mut fmt::Formatter) -> fmt::Result {

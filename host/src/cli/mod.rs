@@ -2,6 +2,7 @@
 mod board;
 mod checksum;
 mod compare;
+mod compared;
 mod course;
 mod info;
 mod input;
@@ -13,11 +14,13 @@ mod lines;
 mod name;
 mod notes;
 mod number;
+mod offset;
 mod output;
 mod place;
 mod play;
 mod progress;
 mod recording;
+mod recordings;
 mod records;
 mod replay;
 mod report;
@@ -27,6 +30,7 @@ mod sound;
 mod state;
 mod stop;
 mod stream;
+mod tally;
 mod target;
 mod trace;
 mod trial;
@@ -71,7 +75,7 @@ lampthistle: plays ProTracker modules of four, six or eight channels (M.K., 4CHN
   lampthistle trace FILE                           a line a tick of a module or a stream
   lampthistle why FILE                             why each channel is quiet, or that it sounds
   lampthistle replay FILE SCRIPT                   runs a trial again, records it, or checks its record
-  lampthistle compare FILE [STREAM | SOUND]        the player against the board, a stream or a recording
+  lampthistle compare FILE [STREAM | SOUND]        the player against the board, a stream or a recording; or two recordings
   lampthistle help COMMAND                         more on a command, with an example
   lampthistle --version
 

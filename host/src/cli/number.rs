@@ -75,6 +75,8 @@ pub trait Number: Copy + Default {
     /// Whether all bits are the same.
     fn same(self, other: Self) -> bool;
 
+    fn float(self) -> f64;
+
     fn value(self) -> Value;
 }
 
@@ -100,6 +102,10 @@ impl Number for i16 {
 
     fn same(self, other: i16) -> bool {
         self == other
+    }
+
+    fn float(self) -> f64 {
+        self.into()
     }
 
     fn value(self) -> Value {
@@ -136,6 +142,10 @@ impl Number for f32 {
 
     fn same(self, other: f32) -> bool {
         self.to_bits() == other.to_bits()
+    }
+
+    fn float(self) -> f64 {
+        self.into()
     }
 
     fn value(self) -> Value {

@@ -6,6 +6,7 @@ use super::output::counted;
 use super::sound::{wav_kind, Format, WAV_FLOATS, WAV_WHOLE};
 use super::stop::Stop;
 use lampthistle::RATE;
+use std::collections::VecDeque;
 use std::ffi::OsStr;
 use std::io::{self, BufReader, ErrorKind, Read};
 
@@ -34,6 +35,8 @@ pub struct Recording<N> {
     from: BufReader<Box<dyn Read>>,
     /// The bytes that a header says are still to come; none where it leaves that open.
     left: Option<u64>,
+    /// Numbers that were read ahead, and those that were given last.
+    ahead: VecDeque<N>,
     numbers: Vec<N>,
 }
 
@@ -54,12 +57,32 @@ impl<N: Number> Recording<N> {
             kind,
             from,
             left,
+            ahead: VecDeque::new(),
             numbers: Vec::new(),
         })
     }
 
+    /// The next numbers, at most so many, which stay the next ones; fewer at the end.
+    pub fn look_ahead(&mut self, most: usize) -> Result<Vec<N>, Stop> {
+        if self.ahead.len() < most {
+            let more = self.read(most - self.ahead.len())?;
+            self.ahead.extend(more);
+        }
+        Ok(self.ahead.iter().take(most).copied().collect())
+    }
+
     /// The next numbers, at most so many; fewer at the end, and none after it.
     pub fn next(&mut self, most: usize) -> Result<&[N], Stop> {
+        let kept = self.ahead.len().min(most);
+        let mut numbers: Vec<N> = self.ahead.drain(..kept).collect();
+        if kept < most {
+            numbers.extend(self.read(most - kept)?);
+        }
+        self.numbers = numbers;
+        Ok(&self.numbers)
+    }
+
+    fn read(&mut self, most: usize) -> Result<Vec<N>, Stop> {
         let asked = (N::BYTES * most) as u64;
         let asked = self.left.map_or(asked, |left| left.min(asked));
         let mut bytes = Vec::with_capacity(asked as usize);
@@ -75,8 +98,7 @@ impl<N: Number> Recording<N> {
         if bytes.len() % self.kind.frame_bytes() != 0 {
             return cannot("ends within a frame".into());
         }
-        self.numbers = bytes.chunks_exact(N::BYTES).map(N::read).collect();
-        Ok(&self.numbers)
+        Ok(bytes.chunks_exact(N::BYTES).map(N::read).collect())
     }
 }
 

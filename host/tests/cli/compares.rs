@@ -51,14 +51,18 @@ fn a_stream_is_compared() {
     change(stream, |bytes| bytes[13] -= 1);
     let (status, out, err) = told(&["compare", module, stream]);
     assert_eq!((status, out.as_str()), (1, ""));
-    assert!(err.contains(": DIFFERENT: tick 0, frame "), "{err}");
+    assert!(
+        err.contains(": DIFFERENT: tick 0 (position 0, row 0), frame "),
+        "{err}"
+    );
     // The second tick's tempo: 472 frames in place of 471.
     change(stream, |bytes| {
         bytes[13] += 1;
         bytes[25] = 254;
     });
     let (_, _, err) = told(&["compare", module, stream]);
-    let line = "tick 1, frame 471 (941 from the beginning), left: player none, ";
+    let line =
+        "tick 1 (position 0, row 0), frame 471 (941 from the beginning), left: player none, ";
     assert!(err.contains(line), "{err}");
     change(stream, |bytes| bytes[4] = 4);
     let (status, out, _) = told(&["compare", module, stream, "--plain"]);
@@ -70,10 +74,12 @@ fn a_stream_is_compared() {
     });
     let (_, _, err) = told(&["compare", module, stream]);
     assert!(
-        err.contains("tick 1, frame 470 (940 from the beginning), left: player "),
+        err.contains(
+            "tick 1 (position 0, row 0), frame 470 (940 from the beginning), left: player "
+        ),
         "{err}"
     );
-    assert!(err.ends_with(" none\n"), "{err}");
+    assert!(err.lines().next().unwrap().ends_with(" none"), "{err}");
 }
 
 #[test]
@@ -88,7 +94,7 @@ fn a_recording_is_compared() {
         change(sound, |bytes| bytes[start + 4 * (frames(2) + 3) + 2] ^= 1);
         let (status, _, err) = told(&["compare", module, sound]);
         assert_eq!(status, 1);
-        let line = "DIFFERENT: tick 2, frame 3 (944 from the beginning), right: player ";
+        let line = "DIFFERENT: tick 2 (position 0, row 0), frame 3 (944 from the beginning), right: player ";
         assert!(err.contains(line), "{err}");
     }
 }

@@ -138,7 +138,9 @@ fn floats_are_compared() {
             std::fs::write(sound, bytes).unwrap();
             let (status, _, err) = told(&with(&["compare", module, sound], options));
             let side = ["mono", "right"][sides as usize - 1];
-            let line = format!("tick 2, frame 3 (944 from the beginning), {side}: player ");
+            let line = format!(
+                "tick 2 (position 0, row 0), frame 3 (944 from the beginning), {side}: player "
+            );
             assert!(status == 1 && err.contains(&line), "{err}");
         }
     }
@@ -152,11 +154,11 @@ fn bits_count_and_not_values() {
     let words = ["compare", module, sound, "--float"];
     let (status, _, err) = told(&words);
     let line = format!("frame 0 (0 from the beginning), right: player 0, {sound} -0\n");
-    assert!(status == 1 && err.ends_with(&line), "{err}");
+    assert!(status == 1 && err.contains(&line), "{err}");
     std::fs::write(sound, [0, 0, 0xC0, 0x7F]).unwrap();
     let (_, out, _) = told(&["compare", module, sound, "--float", "--mono", "--json"]);
-    let end = "\"side\":\"mono\",\"player\":0,\"other\":\"NaN\"}\n";
-    assert!(out.ends_with(end), "{out}");
+    let first = "\"side\":\"mono\",\"player\":0,\"other\":\"NaN\"}";
+    assert!(out.contains(first), "{out}");
 }
 
 #[test]

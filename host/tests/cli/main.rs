@@ -6,6 +6,7 @@ mod common;
 mod compares;
 mod finetunes;
 mod floats;
+mod hints;
 mod leftovers;
 mod objects;
 mod outputs;

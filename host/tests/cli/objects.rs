@@ -113,22 +113,32 @@ fn replay_prints_an_object_a_call() {
 fn compare_prints_one_object() {
     let name = stored("effects");
     let (status, lines) = lines(&["compare", &name, "--ticks", "20"]);
+    let same = r#""offset":null,"end":null,"differing_frames":0,"largest_difference":null,"first":null,"last":null,"hints":[]"#;
     let line = format!(
-        r#"{{"schema":1,"file":"{name}","number":0,"place":0,"meaning":"accepted","with":"board","equal":true,"ticks":20,"frames":9411,"asked_ticks":20,"song_ticks":null}}"#
+        r#"{{"schema":1,"file":"{name}","number":0,"place":0,"meaning":"accepted","with":"board","equal":true,"ticks":20,"frames":9411,"asked_ticks":20,"song_ticks":null,{same}}}"#
     );
     assert_eq!((status, lines), (0, vec![line]));
     let sound = own("object.raw");
     std::fs::write(&sound, [0, 0, 0, 0]).unwrap();
     let words = ["compare", &name, sound.to_str().unwrap()];
     let (status, lines) = self::lines(&words);
-    let end = r#""equal":true,"ticks":0,"frames":1,"asked_ticks":null,"song_ticks":192}"#;
-    assert!(status == 0 && lines[0].ends_with(end), "{}", lines[0]);
+    let end = format!(
+        r#""equal":true,"ticks":0,"frames":1,"asked_ticks":null,"song_ticks":192,{same}}}"#
+    );
+    assert!(status == 0 && lines[0].ends_with(&end), "{}", lines[0]);
     let (status, lines) = self::lines(&[&words[..], &["--ticks", "1"]].concat());
-    let end = r#""equal":false,"ticks":0,"frames":0,"asked_ticks":1,"song_ticks":null,"tick":0,"frame":1,"side":"left","player":0,"other":null}"#;
-    assert!(status == 1 && lines[0].ends_with(end), "{}", lines[0]);
+    let short = same.replace(r#""end":null"#, r#""end":"short""#);
+    let end = format!(
+        r#""equal":false,"ticks":0,"frames":1,"asked_ticks":1,"song_ticks":null,{short}}}"#
+    );
+    assert!(status == 1 && lines[0].ends_with(&end), "{}", lines[0]);
     std::fs::write(&sound, [1, 0, 0, 0]).unwrap();
     let (status, lines) = self::lines(&words);
-    let end = r#""song_ticks":192,"tick":0,"frame":0,"side":"left","player":0,"other":1}"#;
+    let place = r#""tick":0,"position":0,"row":0,"frame":0,"from_beginning":0"#;
+    let end = format!(
+        r#""differing_frames":1,"largest_difference":1,"first":{{{place},"side":"left","player":0,"other":1}},"last":{{{place}}},"hints":["player is silent"]}}"#
+    );
+    let end = end.as_str();
     assert!(status == 1 && lines[0].ends_with(end), "{}", lines[0]);
 }
 

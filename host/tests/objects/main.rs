@@ -170,6 +170,25 @@ fn objects() -> Vec<(Vec<&'static str>, String)> {
         let words: Vec<&OsStr> = words.iter().map(|name| word(name)).collect();
         add(&["Answers", "compare"], &words);
     }
+    add(&["compare"], &["compare", &sound, &no_numbers].map(word));
+    let floats = ["compare", &no_numbers, &sound, "--float"].map(word);
+    add(&["compare"], &floats);
+    // The second tick a frame longer, and by version 1 a frame shorter.
+    let bytes = std::fs::read(&stream).unwrap();
+    let mut longer = bytes.clone();
+    longer[25] = 254;
+    let follow = bytes.len() as u32 - 5;
+    let shorter = [&follow.to_be_bytes(), &[1][..], &bytes[6..]].concat();
+    for (name, bytes) in [("longer.stream", longer), ("shorter.stream", shorter)] {
+        let name = own(name);
+        std::fs::write(&name, bytes).unwrap();
+        add(
+            &["Answers", "compare"],
+            &["compare", EFFECTS, &name].map(word),
+        );
+    }
+    let from = ["compare", FLOW, &sound, "--offset=1"].map(word);
+    add(&["Answers", "compare"], &from);
     for ticks in ["--ticks=2", "--ticks=20"] {
         let words = [word("compare"), odd_module, stream.as_os_str(), word(ticks)];
         add(&["Answers", "compare"], &words);
