@@ -13,16 +13,12 @@ CXX ?= c++
 COUNT ?= 1000000
 SEED ?= 0
 PREFIX ?= /usr/local
-# Recipes take the name from the environment, where spaces and quotes do no harm.
-export FILE
+# Recipes take names from the environment, where spaces, quotes and & do no harm.
+export FILE PREFIX DESTDIR
 
 C_WARNINGS := -Wall -Wextra -Werror -pedantic
 BUILT := host/target/release
 PLAY := $(BUILT)/lampthistle
-# Where install puts things, and what it puts there.
-ROOT = $(DESTDIR)$(PREFIX)
-INSTALLED := bin/lampthistle lib/liblampthistle.a lib/pkgconfig/lampthistle.pc include/lampthistle.h \
-    share/man/man1/lampthistle.1 share/bash-completion/completions/lampthistle
 
 # One archive for C, C++ and every cargo profile.
 export LAMPTHISTLE_LIB_DIR := $(CURDIR)/out
@@ -97,24 +93,15 @@ robust: all
 
 # Installing into a folder of its own, using what is there, and taking it away.
 install-test: all
-	scripts/installed out/installed
+	scripts/installed 'out/installed & there'
+	scripts/unlinked out/unlinked
 
 # What make built is installed as it is: nothing is proved or built again, so that another user can do it, without the kit.
 install:
-	@for file in $(PLAY) out/liblampthistle.a out/lampthistle.h; do \
-	    test -f $$file || { echo "$$file is not there: run make first" >&2; exit 1; }; \
-	done
-	install -D -m 755 $(PLAY) "$(ROOT)/bin/lampthistle"
-	install -D -m 644 out/liblampthistle.a "$(ROOT)/lib/liblampthistle.a"
-	install -D -m 644 out/lampthistle.h "$(ROOT)/include/lampthistle.h"
-	install -D -m 644 docs/lampthistle.1 "$(ROOT)/share/man/man1/lampthistle.1"
-	install -D -m 644 scripts/completion.bash "$(ROOT)/share/bash-completion/completions/lampthistle"
-	version=$$(sed -n 's/.*LAMPTHISTLE_VERSION_TEXT "\(.*\)"/\1/p' out/lampthistle.h) && \
-	    sed -e 's|@PREFIX@|$(PREFIX)|' -e "s|@VERSION@|$$version|" include/lampthistle.pc.in >out/lampthistle.pc
-	install -D -m 644 out/lampthistle.pc "$(ROOT)/lib/pkgconfig/lampthistle.pc"
+	@scripts/install $(PLAY)
 
 uninstall:
-	cd "$(ROOT)" && rm -f $(INSTALLED)
+	@scripts/install --remove
 
 # The folders stand among the sources, so that a file taken away counts as a change. What rt says is shown where it fails.
 out/liblampthistle.a: crates.txt $(shell find crates)

@@ -1,13 +1,11 @@
-//! Links the proved archive, which `rt staticlib` makes, and hands the package its release: its version, with the commit where it is built
-//! in a git repository.
+//! Links the proved archive that is there, and hands the package its release: its version, with the commit where it is built in a git
+//! repository. The archive is never made here: `make lib` does that, with the Rattle kit.
 //!
-//! LAMPTHISTLE_LIB_DIR: a folder that holds liblampthistle.a already; `rt` is then not run.
+//! LAMPTHISTLE_LIB_DIR: a folder that holds liblampthistle.a; without it out/ of the repository.
 use std::path::{Path, PathBuf};
 use std::process::Command;
 use std::{env, fs};
 
-/// The crate that exports the C calls, and the archive's name in `out/`.
-const CRATE: &str = "capi";
 const ARCHIVE: &str = "liblampthistle.a";
 
 fn main() {
@@ -20,40 +18,19 @@ fn main() {
 fn link(root: &Path) {
     println!("cargo:rerun-if-env-changed=LAMPTHISTLE_LIB_DIR");
     let out = PathBuf::from(env::var_os("OUT_DIR").expect("cargo sets OUT_DIR"));
-    let made = match env::var_os("LAMPTHISTLE_LIB_DIR") {
-        Some(dir) => {
-            let given = PathBuf::from(dir).join(ARCHIVE);
-            println!("cargo:rerun-if-changed={}", given.display());
-            given
-        }
-        None => prove(root),
-    };
-    // A copy: `rt ci` removes target/, and a link must not depend on when that was.
-    fs::copy(&made, out.join(ARCHIVE))
-        .unwrap_or_else(|e| panic!("cannot copy {}: {e}", made.display()));
+    let given = env::var_os("LAMPTHISTLE_LIB_DIR").map(PathBuf::from);
+    let made = given.unwrap_or(root.join("out")).join(ARCHIVE);
+    println!("cargo:rerun-if-changed={}", made.display());
+    // A copy: a link must not depend on when the archive is made anew.
+    if let Err(e) = fs::copy(&made, out.join(ARCHIVE)) {
+        println!(
+            "cargo::error={}: {e}: run make lib in the repository, or set LAMPTHISTLE_LIB_DIR to a folder that holds {ARCHIVE}",
+            made.display()
+        );
+        return;
+    }
     println!("cargo:rustc-link-search=native={}", out.display());
     println!("cargo:rustc-link-lib=static=lampthistle");
-}
-
-fn prove(root: &Path) -> PathBuf {
-    for part in ["crates.txt", "crates"] {
-        println!("cargo:rerun-if-changed={}", root.join(part).display());
-    }
-    let ran = Command::new("rt")
-        .args(["staticlib", CRATE])
-        .current_dir(root)
-        .output()
-        .unwrap_or_else(|e| {
-            panic!("cannot run rt: {e}. Install the Rattle kit, or set LAMPTHISTLE_LIB_DIR to a folder with {ARCHIVE}")
-        });
-    if !ran.status.success() {
-        panic!(
-            "rt staticlib {CRATE} failed:\n{}{}",
-            String::from_utf8_lossy(&ran.stdout),
-            String::from_utf8_lossy(&ran.stderr)
-        );
-    }
-    root.join("target/staticlib").join(format!("lib{CRATE}.a"))
 }
 
 /// The version, and the commit in brackets; a source tree without git has the version alone.
