@@ -81,6 +81,8 @@ c-test: demo
 	$(CC) -std=c99 $(C_WARNINGS) -DFIRST_CLOCK=4294967200u -Iout examples/panel.c out/liblampthistle.a -o out/panel_wrap
 	$(CC) -std=c99 $(C_WARNINGS) host/c/line.c -o out/line
 	scripts/examples out $(PLAY)
+	! $(CC) -std=c99 -U__x86_64__ -Iout -fsyntax-only host/c/judge.c 2>out/said
+	grep -q 'the library is built for x86-64 Linux alone' out/said
 	$(MAKE) --question lib
 	cp out/demo.mod 'out/the demo.mod'
 	$(MAKE) judge FILE='out/the demo.mod'

@@ -101,6 +101,10 @@
 #ifndef LAMPTHISTLE_H
 #define LAMPTHISTLE_H
 
+#if !defined(__linux__) || !defined(__x86_64__) || defined(__ILP32__)
+#error "lampthistle: the library is built for x86-64 Linux alone; this compiler is for another machine or system"
+#endif
+
 #include <stddef.h>
 #include <stdint.h>
 

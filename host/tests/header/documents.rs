@@ -93,3 +93,37 @@ fn the_changelog_begins_with_this_version() {
     let version = first.and_then(|heading| heading.split(' ').next());
     assert_eq!(version, Some(env!("CARGO_PKG_VERSION")));
 }
+
+/// Names of papers that a reader has not stand only beside words that say what they are.
+#[test]
+fn terms_of_papers_are_explained() {
+    for name in [
+        "README.md",
+        "docs/API.md",
+        "docs/FORMATS.md",
+        "docs/TESTING.md",
+    ] {
+        let text = file(name);
+        assert!(!text.contains("demand "), "{name}");
+        assert_eq!(
+            text.contains("P1 to P14"),
+            text.contains("worked cases"),
+            "{name}"
+        );
+        let described = text.contains("the description");
+        assert!(
+            !described || text.contains("customer's paper"),
+            "{name}: which description?"
+        );
+    }
+    assert!(file("docs/RULES.md").contains("cases/specs/Cases.antt: p14"));
+}
+
+#[test]
+fn the_readme_says_the_versions_that_build_it() {
+    let (readme, package) = (file("README.md"), file("host/Cargo.toml"));
+    let (_, version) = package.split_once("rust-version = \"").unwrap();
+    let version = version.split('"').next().unwrap();
+    assert!(readme.contains(&format!("Rust {version} or newer")));
+    assert!(readme.contains("rattle-kit-"));
+}
