@@ -4,6 +4,7 @@ mod checksum;
 mod compare;
 mod compared;
 mod course;
+mod drawing;
 mod info;
 mod input;
 mod json;
@@ -11,11 +12,14 @@ mod judge;
 mod layout;
 mod length;
 mod lines;
+mod marks;
 mod name;
 mod notes;
 mod number;
 mod offset;
 mod output;
+mod page;
+mod picture;
 mod place;
 mod play;
 mod progress;
@@ -24,6 +28,7 @@ mod recordings;
 mod records;
 mod replay;
 mod report;
+mod scene;
 mod script;
 mod song;
 mod sound;
@@ -52,7 +57,7 @@ struct Command {
     run: fn(&Words) -> Result<bool, Stop>,
 }
 
-const COMMANDS: [&Command; 9] = [
+const COMMANDS: [&Command; 10] = [
     &judge::COMMAND,
     &info::COMMAND,
     &play::COMMAND,
@@ -62,6 +67,7 @@ const COMMANDS: [&Command; 9] = [
     &why::COMMAND,
     &replay::COMMAND,
     &compare::COMMAND,
+    &picture::COMMAND,
 ];
 
 const HELP: &str = "\
@@ -76,6 +82,7 @@ lampthistle: plays ProTracker modules of four, six or eight channels (M.K., 4CHN
   lampthistle why FILE                             why each channel is quiet, or that it sounds
   lampthistle replay FILE SCRIPT                   runs a trial again, records it, or checks its record
   lampthistle compare FILE [STREAM | SOUND]        the player against the board, a stream or a recording; or two recordings
+  lampthistle picture FILE --out OUT               the song, or a trial of it, drawn along time (.svg, .html)
   lampthistle help COMMAND                         more on a command, with an example
   lampthistle --version
 

@@ -78,6 +78,7 @@ fn every_command_has_help_with_an_example() {
         "why",
         "replay",
         "compare",
+        "picture",
     ];
     let (status, all, _) = told(&["--help"]);
     assert_eq!(status, 0);

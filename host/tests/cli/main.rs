@@ -10,6 +10,7 @@ mod hints;
 mod leftovers;
 mod objects;
 mod outputs;
+mod pictures;
 mod recordings;
 mod robust;
 mod scripts;

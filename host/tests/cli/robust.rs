@@ -256,6 +256,7 @@ fn any_words_end_with_a_status() {
         "why",
         "replay",
         "compare",
+        "picture",
         "",
     ] {
         for first in &words {

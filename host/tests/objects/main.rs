@@ -149,6 +149,9 @@ fn objects() -> Vec<(Vec<&'static str>, String)> {
         outs[1],
     ];
     add(&["Answers", "board"], &board);
+    let svg = odd("out.svg");
+    let picture = [word("picture"), odd_module, word("--out"), svg.as_os_str()];
+    add(&["Answers", "picture"], &picture);
     add(&["trace"], &["trace", FLOW].map(word));
     add(&["trace"], &[word("trace"), stream.as_os_str()]);
     for ticks in ["--ticks=0", "--seconds=1"] {
