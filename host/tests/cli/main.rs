@@ -9,6 +9,7 @@ mod floats;
 mod hints;
 mod leftovers;
 mod objects;
+mod odd;
 mod outputs;
 mod pictures;
 mod recordings;
