@@ -8,6 +8,7 @@ use super::name::Name;
 use super::number::{Kind, Number, FLOAT, MONO_FLAG};
 use super::offset::{Beginning, Offset};
 use super::output::counted;
+use super::player::Player;
 use super::progress::Progress;
 use super::recording::{self, Recording};
 use super::recordings;
@@ -16,7 +17,7 @@ use super::song::{Song, TICK_FRAMES};
 use super::sound::Format;
 use super::stop::Stop;
 use super::stream::translated_for;
-use super::tally::{Place, Tally, Tick};
+use super::tally::Tally;
 use super::words::Words;
 use super::Command;
 use lampthistle::RATE;
@@ -260,42 +261,6 @@ fn search_song<N: Number>(file: &Source, kind: Kind, ahead: &[N]) -> Result<Opti
     })
 }
 
-/// The song as it is compared: tick by tick, without its first frames where an offset leaves them out.
-struct Player<'a, N> {
-    file: &'a Source,
-    song: Song<'a, N>,
-    sides: usize,
-    skip: usize,
-    tick: u64,
-    from_begin: u64,
-}
-
-impl<N: Number> Player<'_, N> {
-    /// The next tick's numbers, where they begin, and whether all of the tick is there.
-    fn next(&mut self) -> Result<(Place, &[N], bool), Stop> {
-        let state = &self.song.state;
-        let tick = Tick {
-            number: self.tick,
-            position: state.position(),
-            row: state.row(),
-        };
-        let played = self.song.next(TICK_FRAMES);
-        let numbers = played.map_err(|answer| self.file.refused(answer))?;
-        let numbers = numbers.unwrap_or(&[]);
-        let frames = numbers.len() / self.sides;
-        let cut = self.skip.min(frames);
-        let place = Place {
-            tick: Some(tick),
-            frame: cut as u64,
-            from_begin: self.from_begin + cut as u64,
-        };
-        self.skip -= cut;
-        self.tick += 1;
-        self.from_begin += frames as u64;
-        Ok((place, &numbers[cut * self.sides..], cut == 0))
-    }
-}
-
 /// Plays the module beside the other, for the ticks that are asked for or until the other ends.
 fn compare<N: Number>(
     file: &Source,
@@ -307,14 +272,7 @@ fn compare<N: Number>(
     let (sides, asked) = (kind.sides(), asked.map(u64::from));
     let mut compared = Compared::new(Tally::new(kind), offset);
     let skip = compared.skip(&mut |numbers| Ok(other.next(numbers)?.len()), sides)?;
-    let mut player = Player {
-        file,
-        song: Song::for_sides(&file.bytes, sides),
-        sides,
-        skip,
-        tick: 0,
-        from_begin: 0,
-    };
+    let mut player = Player::new(file, sides, skip);
     let (mut progress, all) = (Progress::new(), asked.or(other.ticks()));
     let (mut tick, may_be_cut) = (0, other.may_be_cut());
     while asked.is_none_or(|asked| tick < asked) {

@@ -20,50 +20,61 @@ const LOUDEST: f64 = 64.0;
 const LABEL: f64 = 26.0;
 const LABELLED: f64 = 150.0;
 
-/// Seconds and positions along time, with lines through all lanes.
+/// Seconds and positions along time.
 pub fn axes(drawing: &Drawing, lanes: &Lanes) -> String {
+    let (places, seconds) = (places(drawing, lanes), seconds(drawing, lanes));
+    format!("<g aria-hidden=\"true\">\n{places}{seconds}</g>\n")
+}
+
+/// A line from one height to another.
+fn line(x: f64, from: f64, to: f64, class: &str) -> String {
+    format!(
+        "<line class=\"{class}\" x1=\"{x:.1}\" x2=\"{x:.1}\" y1=\"{from:.1}\" y2=\"{to:.1}\"/>\n"
+    )
+}
+
+fn text(x: f64, y: f64, class: &str, said: &str) -> String {
+    format!("<text class=\"{class}\" x=\"{x:.1}\" y=\"{y:.1}\">{said}</text>\n")
+}
+
+/// Positions, and every sixteenth row of them, with lines through all lanes.
+fn places(drawing: &Drawing, lanes: &Lanes) -> String {
     let (top, bottom) = (lanes.hands - 6.0, lanes.bottom);
-    let line = |x: f64, class: &str| {
-        format!("<line class=\"{class}\" x1=\"{x:.1}\" x2=\"{x:.1}\" y1=\"{top:.1}\" y2=\"{bottom:.1}\"/>\n")
-    };
-    let text = |x: f64, y: f64, class: &str, said: &str| {
-        format!("<text class=\"{class}\" x=\"{x:.1}\" y=\"{y:.1}\">{said}</text>\n")
-    };
-    let mut svg = String::from("<g aria-hidden=\"true\">\n");
-    svg += &text(16.0, top - 16.0, "faint small", "position");
+    let mut svg = text(16.0, top - 16.0, "faint small", "position");
     svg += &text(16.0, top - 3.0, "faint small", "row");
-    svg += &text(16.0, bottom + 16.0, "faint small", "seconds");
     let (mut last, mut free) = (None, 0.0);
     for tick in &drawing.scene.ticks {
         let x = drawing.x(tick.from);
         if last.map(|(position, _)| position) != Some(tick.position) {
-            svg += &line(x, "strong");
+            svg += &line(x, top, bottom, "strong");
             if x >= free {
                 svg += &text(x + 2.0, top - 16.0, "", &tick.position.to_string());
                 free = x + LABEL;
             }
         } else if last != Some((tick.position, tick.row)) && tick.row % 16 == 0 {
-            svg += &line(x, "grid");
+            svg += &line(x, top, bottom, "grid");
             if x >= free {
                 svg += &text(x + 2.0, top - 3.0, "faint small", &tick.row.to_string());
             }
         }
         last = Some((tick.position, tick.row));
     }
-    let step = seconds_step(time(drawing.scene.frames));
-    let mut at = 0.0;
-    while at <= time(drawing.scene.frames) {
+    svg
+}
+
+fn seconds(drawing: &Drawing, lanes: &Lanes) -> String {
+    let (all, bottom) = (time(drawing.scene.frames), lanes.bottom);
+    let mut svg = text(16.0, bottom + 16.0, "faint small", "seconds");
+    let (step, mut at) = (seconds_step(all), 0.0);
+    while at <= all {
         let x = drawing.x((at * f64::from(lampthistle::RATE)) as u64);
-        svg += &format!(
-            "<line class=\"strong\" x1=\"{x:.1}\" x2=\"{x:.1}\" y1=\"{bottom:.1}\" y2=\"{:.1}\"/>\n",
-            bottom + 5.0
-        );
+        svg += &line(x, bottom, bottom + 5.0, "strong");
         let said = format!("{at:.2}");
         let said = said.trim_end_matches('0').trim_end_matches('.');
         svg += &text(x + 2.0, bottom + 16.0, "", said);
         at += step;
     }
-    svg + "</g>\n"
+    svg
 }
 
 /// A round number of seconds, of which up to sixteen fit.

@@ -22,6 +22,7 @@ mod page;
 mod picture;
 mod place;
 mod play;
+mod player;
 mod progress;
 mod recording;
 mod recordings;
