@@ -108,7 +108,7 @@ uninstall:
 # The folders stand among the sources, so that a file taken away counts as a change. What rt says is shown where it fails.
 out/liblampthistle.a: crates.txt $(shell find crates)
 	@mkdir -p out
-	@echo 'proving the library: four to seven minutes from nothing (out/proofs.log)'
+	@echo 'proving the library: five to ten minutes from nothing (out/proofs.log)'
 	@rt staticlib capi >out/proofs.log 2>&1 || { cat out/proofs.log; exit 1; }
 	cp target/staticlib/libcapi.a $@
 
