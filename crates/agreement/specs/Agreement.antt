@@ -1,5 +1,5 @@
 -- The theorem, for any kind of frames: where player and stream player give one play of one list of ticks on one machine, what the three calls leave is what the demand
--- asks (`agreement`). And 16-bit frames are such a kind (`sixteen-bits`): the decoder gives back the ticks that were encoded, and both play them by one definition.
+-- asks (`agreement`). And 16-bit frames are such a kind (`sixteen_bits_lem`): the decoder gives back the ticks that were encoded, and both play them by one definition.
 -- Assumes nothing.
 use Rattle.std.specs.Prelude.{ℕ, ◌≤◌, ◌≡◌, true, List, ℤ, length, take, drop}
 use Rattle.std.proofs.Math.Path.{refl}
@@ -8,40 +8,40 @@ use Rattle.common.specs.Answers.{accepted, Outcome, outcome, refusing}
 use Rattle.common.specs.ByteLaws.{Bytes}
 use Rattle.common.specs.declared.Answer.{Answer}
 use Rattle.ticks.specs.declared.Tick.{Tick}
-use Rattle.ticks.specs.Play.{over, Mechanism, afterAll, rendered, fit, playOut}
-use Rattle.reader.specs.File.{Module, module_of, channelCount}
-use Rattle.reader.specs.Layouts.{module-legal}
+use Rattle.ticks.specs.Play.{over, Mechanism, after_all, rendered, fit, play_out}
+use Rattle.reader.specs.File.{Module, module_of, channel_count}
+use Rattle.reader.specs.Layouts.{module_legal}
 use Rattle.reader.specs.Judge.{verdict}
-use Rattle.sequencer.specs.Songs.{freshSong}
-use Rattle.sequencer.specs.Runs.{ticksFrom}
-use Rattle.voice.specs.Voice.{samplesOf}
-use Rattle.machine.specs.Machine.{freshMachine, mechanismOf}
+use Rattle.sequencer.specs.Songs.{fresh_song}
+use Rattle.sequencer.specs.Runs.{ticks_from}
+use Rattle.voice.specs.Voice.{samples_of}
+use Rattle.machine.specs.Machine.{fresh_machine, mechanism_of}
 use Rattle.player.specs.declared.State.{State}
 use Rattle.player.specs.declared.Reply.{Reply}
-use Rattle.player.specs.State.{freshState}
-use Rattle.player.specs.Play.{machine_of, ticksOf, playedFrom, playOf}
-use Rattle.player.specs.Kept.{fresh-state, fresh-soundings}
-use Rattle.player.specs.Keeps.{play-accepted}
-use Rattle.translator.specs.Translate.{mostTicks, freshTicks, streamOf}
-use Rattle.translator.specs.Streams.{stream-keeps, decode-stream, translated}
-use Rattle.board.specs.Board.{ledTo, playedTicks, playedBy, playStreamFromOf, playStreamOf}
-use Rattle.agreement.specs.Demand.{Calls, Sounds, Kind, sixteenBits, Agreement}
-use Rattle.agreement.specs.Plays.{plays-sounds}
+use Rattle.player.specs.State.{fresh_state}
+use Rattle.player.specs.Play.{machine_of, ticks_of, played_from, play_of}
+use Rattle.player.specs.Kept.{fresh_state_lem, fresh_soundings}
+use Rattle.player.specs.Keeps.{play_accepted}
+use Rattle.translator.specs.Translate.{most_ticks, fresh_ticks, stream_of}
+use Rattle.translator.specs.Streams.{stream_keeps, decode_stream, translated}
+use Rattle.board.specs.Board.{led_to, played_ticks, played_by, play_stream_from_of, play_stream_of}
+use Rattle.agreement.specs.Demand.{Calls, Sounds, Kind, sixteen_bits, Agreement}
+use Rattle.agreement.specs.Plays.{plays_sounds}
 use Rattle.agreement.specs.declared.Both.{Both}
 
 -- ---- any kind of frames
 -- player and stream player give one play: n ticks from a state, on a machine
 pub record OnePlay {A W : Type 0} (kind : Kind A) (stream : List ℕ) (n : ℕ) (k : Mechanism A W Tick) (m : Module) (s : State) (w : W) : Type 0 where
-  pub sounds : (j : ℕ) → kind.sound j ≡ rendered k w (ticksOf m j s)
-  pub played : (out : List A) → kind.plays out ≡ outcome (accepted (fit k (length out) w (ticksOf m n s))) (playOut k w (ticksOf m n s) out)
+  pub sounds : (j : ℕ) → kind.sound j ≡ rendered k w (ticks_of m j s)
+  pub played : (out : List A) → kind.plays out ≡ outcome (accepted (fit k (length out) w (ticks_of m n s))) (play_out k w (ticks_of m n s) out)
   pub alike : (out : List A) → kind.streams stream out ≡ kind.plays out
 
 module _ {A W : Type 0} {kind : Kind A} {stream : List ℕ} {n : ℕ} {k : Mechanism A W Tick} {m : Module} {s : State} {w : W} (o : OnePlay kind stream n k m s w) where
   -- what is left by an answer and an output that are the player's
-  sounds-by : (answer : Answer) (out out' : List A) → outcome answer out' ≡ kind.plays out → Sounds kind.sound n answer.number answer.place answer.count out out'
-  sounds-by answer out out' f =
-      let g : outcome answer out' ≡ outcome (accepted (fit k (length out) w (ticksOf m n s))) (playOut k w (ticksOf m n s) out) = f ∙ o.played out in
-      let p = plays-sounds k m s w n answer out out' (ap (λ (x : Outcome Answer A). x.reply) g) (ap (λ (x : Outcome Answer A). x.out) g) in
+  sounds_by : (answer : Answer) (out out' : List A) → outcome answer out' ≡ kind.plays out → Sounds kind.sound n answer.number answer.place answer.count out out'
+  sounds_by answer out out' f =
+      let g : outcome answer out' ≡ outcome (accepted (fit k (length out) w (ticks_of m n s))) (play_out k w (ticks_of m n s) out) = f ∙ o.played out in
+      let p = plays_sounds k m s w n answer out out' (ap (λ (x : Outcome Answer A). x.reply) g) (ap (λ (x : Outcome Answer A). x.out) g) in
       record {
         accepts = p.accepts;
         most = record { within = p.most.within; fits = rw (o.sounds answer.count) p.most.fits; largest = λ j h l. p.most.largest j h (rw (o.sounds j) at l) };
@@ -53,7 +53,7 @@ module _ {A W : Type 0} {kind : Kind A} {stream : List ℕ} {n : ℕ} {k : Mecha
   one_answer : (panel board : List A) → length panel ≡ length board → (kind.plays panel).reply ≡ (kind.plays board).reply
   one_answer panel board same =
       ap (λ (x : Outcome Answer A). x.reply) (o.played panel)
-      ∙ (ap (λ (cells : ℕ). accepted (fit k cells w (ticksOf m n s))) same ∙ sym (ap (λ (x : Outcome Answer A). x.reply) (o.played board)))
+      ∙ (ap (λ (cells : ℕ). accepted (fit k cells w (ticks_of m n s))) same ∙ sym (ap (λ (x : Outcome Answer A). x.reply) (o.played board)))
 
   module _ (translated played streamed : Answer) (room room' : List ℕ) (panel panel' board board' : List A) where
     -- demand 3
@@ -65,8 +65,8 @@ module _ {A W : Type 0} {kind : Kind A} {stream : List ℕ} {n : ℕ} {k : Mecha
         let front : take (length stream) room' ≡ stream = ap (take (length stream)) left ∙ take_at stream (drop (length stream) room) (length stream) refl in
         let lent : outcome streamed board' ≡ kind.streams stream board = d ∙ ap (λ (xs : List ℕ). kind.streams xs board) (ap (λ (a : Answer). take a.count room') count ∙ front) in
         let alike : outcome streamed board' ≡ kind.plays board = lent ∙ o.alike board in
-        let p = sounds-by played panel panel' c in
-        let q = sounds-by streamed board board' alike in
+        let p = sounds_by played panel panel' c in
+        let q = sounds_by streamed board board' alike in
         let answers : length panel ≡ length board → played ≡ streamed =
         λ same. ap (λ (x : Outcome Answer A). x.reply) c ∙ (one_answer panel board same ∙ sym (ap (λ (x : Outcome Answer A). x.reply) alike)) in
         let numbers : (j : ℕ) → j ≤ played.count → j ≤ streamed.count → take (length (kind.sound j)) panel' ≡ take (length (kind.sound j)) board' =
@@ -74,11 +74,11 @@ module _ {A W : Type 0} {kind : Kind A} {stream : List ℕ} {n : ℕ} {k : Mecha
         record {
           translates = count;
           writes = front;
-          room-stays = ap (drop (length stream)) left ∙ drop_at stream (drop (length stream) room) (length stream) refl;
+          room_stays = ap (drop (length stream)) left ∙ drop_at stream (drop (length stream) room) (length stream) refl;
           lent = lent;
-          panel-sounds = p;
-          board-sounds = q;
-          board-plays = alike;
+          panel_sounds = p;
+          board_sounds = q;
+          board_plays = alike;
           same_numbers = numbers;
           demand = λ same. (answers same, numbers streamed.count (at_most (ap (λ (a : Answer). a.count) (answers same))) (at_most refl));
         }
@@ -87,39 +87,39 @@ module _ {A W : Type 0} {kind : Kind A} {stream : List ℕ} {n : ℕ} {k : Mecha
         at_most h = omega (arith, h)
 
 -- ---- one list of ticks
-pub fresh-ticks : (m : Module) (n : ℕ) → ticksOf m n freshState ≡ freshTicks m n
-unfolding freshState
-fresh-ticks m n = ap (ticksFrom m n freshSong) fresh-soundings
+pub fresh_ticks_lem : (m : Module) (n : ℕ) → ticks_of m n fresh_state ≡ fresh_ticks m n
+unfolding fresh_state
+fresh_ticks_lem m n = ap (ticks_from m n fresh_song) fresh_soundings
 
 -- ---- 16-bit frames
-module _ (bytes : List ℕ) (n : ℕ) (e : (verdict (module_of bytes)).number ≡ 0) (b : Bytes bytes) (few : n ≤ mostTicks) where
+module _ (bytes : List ℕ) (n : ℕ) (e : (verdict (module_of bytes)).number ≡ 0) (b : Bytes bytes) (few : n ≤ most_ticks) where
   abbrev m : Module
   m = module_of bytes
 
   -- an accepted module with a fresh state is not refused
-  player-accepts : (out : List ℤ) → playOf bytes freshState n out ≡ playedFrom m freshState n out
-  player-accepts out = play-accepted bytes e freshState (fresh-state m (module-legal bytes) e) n out
+  player_accepts : (out : List ℤ) → play_of bytes fresh_state n out ≡ played_from m fresh_state n out
+  player_accepts out = play_accepted bytes e fresh_state (fresh_state_lem m (module_legal bytes) e) n out
 
-  played-is : (out : List ℤ) → (sixteenBits bytes n).plays out ≡ outcome (accepted (fit (mechanismOf m) (length out) (machine_of freshState) (ticksOf m n freshState))) (playOut (mechanismOf m) (machine_of freshState) (ticksOf m n freshState) out)
-  unfolding playedFrom
-  played-is out = rw (player-accepts out)
+  played_is : (out : List ℤ) → (sixteen_bits bytes n).plays out ≡ outcome (accepted (fit (mechanism_of m) (length out) (machine_of fresh_state) (ticks_of m n fresh_state))) (play_out (mechanism_of m) (machine_of fresh_state) (ticks_of m n fresh_state) out)
+  unfolding played_from
+  played_is out = rw (player_accepts out)
 
   -- the board answers and leaves what the player does where its stream keeps a remainder
-  streamed-as-played : (out : List ℤ) → playedTicks true (channelCount m) (samplesOf m) 0 (ticksOf m n freshState) out ≡ outcome (playedFrom m freshState n out).reply.answer (playedFrom m freshState n out).out
-  unfolding playedTicks ledTo afterAll playedFrom freshState freshSong freshMachine
-  streamed-as-played out = refl
+  streamed_as_played : (out : List ℤ) → played_ticks true (channel_count m) (samples_of m) 0 (ticks_of m n fresh_state) out ≡ outcome (played_from m fresh_state n out).reply.answer (played_from m fresh_state n out).out
+  unfolding played_ticks led_to after_all played_from fresh_state fresh_song fresh_machine
+  streamed_as_played out = refl
 
-  board-as-player : (out : List ℤ) → playStreamOf bytes (streamOf m n) out ≡ (sixteenBits bytes n).plays out
-  unfolding playStreamFromOf refusing playedBy
-  board-as-player out =
-      rw (eq-eqb (verdict m).number 0 e, stream-keeps m n, decode-stream m (record { layout = module-legal bytes; judged = e; bytes = b }) n few, ← fresh-ticks m n, player-accepts out) (streamed-as-played out)
+  board_as_player : (out : List ℤ) → play_stream_of bytes (stream_of m n) out ≡ (sixteen_bits bytes n).plays out
+  unfolding play_stream_from_of refusing played_by
+  board_as_player out =
+      rw (eq-eqb (verdict m).number 0 e, stream_keeps m n, decode_stream m (record { layout = module_legal bytes; judged = e; bytes = b }) n few, ← fresh_ticks_lem m n, player_accepts out) (streamed_as_played out)
 
-  one-play : OnePlay (sixteenBits bytes n) (streamOf m n) n (mechanismOf m) m freshState (machine_of freshState)
-  one-play = record { sounds = λ j. refl; played = played-is; alike = board-as-player }
+  one_play : OnePlay (sixteen_bits bytes n) (stream_of m n) n (mechanism_of m) m fresh_state (machine_of fresh_state)
+  one_play = record { sounds = λ j. refl; played = played_is; alike = board_as_player }
 
-  pub sixteen-bits : (r : Both) (room room' : List ℕ) (panel panel' board board' : List ℤ) → length (streamOf (module_of bytes) n) ≤ length room → Calls bytes n r room room' panel panel' board board'
-      → Agreement (sixteenBits bytes n) (streamOf (module_of bytes) n) n r.translated r.played.answer r.streamed room room' panel panel' board board'
-  sixteen-bits r room room' panel panel' board board' l c =
-      agreement one-play r.translated r.played.answer r.streamed room room' panel panel' board board' (c.translated ∙ translated bytes n room e few l)
+  pub sixteen_bits_lem : (r : Both) (room room' : List ℕ) (panel panel' board board' : List ℤ) → length (stream_of (module_of bytes) n) ≤ length room → Calls bytes n r room room' panel panel' board board'
+      → Agreement (sixteen_bits bytes n) (stream_of (module_of bytes) n) n r.translated r.played.answer r.streamed room room' panel panel' board board'
+  sixteen_bits_lem r room room' panel panel' board board' l c =
+      agreement one_play r.translated r.played.answer r.streamed room room' panel panel' board board' (c.translated ∙ translated bytes n room e few l)
       (ap (λ (o : Outcome Reply ℤ). outcome o.reply.answer o.out) c.played)
       c.streamed

@@ -2,18 +2,18 @@
 -- Assumes nothing.
 use Rattle.std.specs.Prelude.{ℕ, ◌+◌, ◌≡◌, refl, List, [], ◌∷◌, ◌++◌}
 use Rattle.laws.specs.Ranges.{all, all_from}
-use Rattle.common.specs.Bytes.{fourAt}
+use Rattle.common.specs.Bytes.{four_at}
 use Rattle.common.specs.Answers.{refusing}
-use Rattle.records.specs.Legal.{legalBeside}
-use Rattle.records.specs.Format.{atFirst, knownVersion, shift, streamChannels, read_by, held, periodAt, start_at, spelled, goodBody, read_body, readChannel, readChannels, unusedBits, readBodies, readRecord}
-use Rattle.records.specs.Examples.{emptyStream, noteStream}
+use Rattle.records.specs.Legal.{legal_beside}
+use Rattle.records.specs.Format.{at_first, known_version, shift, stream_channels, read_by, held, period_at, start_at, spelled, good_body, read_body, read_channel, read_channels, unused_bits, read_bodies, read_record}
+use Rattle.records.specs.Examples.{empty_stream, note_stream}
 use Rattle.arrival.specs.declared.Arrival.{Arrival}
-use Rattle.arrival.specs.Arrive.{at_start, taken, total, ended, showsBy, unknown, other, headerShows, endShows, openShows, headerStep, recordStep, step, closed}
-use Rattle.arrival.specs.Cuts.{arrivalOf}
+use Rattle.arrival.specs.Arrive.{at_start, taken, total, ended, shows_by, unknown, other, header_shows, end_shows, open_shows, header_step, record_step, step, closed}
+use Rattle.arrival.specs.Cuts.{arrival_of}
 
 unfoldable pub arrived : Arrival → List ℕ → Arrival
 arrived p [] = p
-arrived p (b ∷ bs) = arrived (arrivalOf (step 31 4 atFirst p b)) bs
+arrived p (b ∷ bs) = arrived (arrival_of (step 31 4 at_first p b)) bs
 
 -- number and place of the fault, and the bytes that are taken
 pub record Shown : Type 0 where
@@ -31,9 +31,9 @@ after bs = shown (arrived at_start bs).number (arrived at_start bs).fault (taken
 abbrev pub head : ℕ → List ℕ
 head follow = 0 ∷ 0 ∷ 0 ∷ follow ∷ 1 ∷ 0 ∷ 0 ∷ 0 ∷ 1 ∷ []
 
-pub bytes-show : (after (emptyStream 1) ≡ shown 0 0 11)
-    × (after (emptyStream 1 ++ 0 ∷ []) ≡ shown 21 12 11)
-    × (after (noteStream 2) ≡ shown 0 0 17)
+pub bytes_show : (after (empty_stream 1) ≡ shown 0 0 11)
+    × (after (empty_stream 1 ++ 0 ∷ []) ≡ shown 21 12 11)
+    × (after (note_stream 2) ≡ shown 0 0 17)
     × (after (0 ∷ 0 ∷ 0 ∷ 0 ∷ []) ≡ shown 21 4 4)
     × (after (0 ∷ 0 ∷ 0 ∷ 1 ∷ 9 ∷ []) ≡ shown 21 5 5)
     × (after (0 ∷ 0 ∷ 0 ∷ 7 ∷ 9 ∷ []) ≡ shown 22 4 5)
@@ -51,5 +51,5 @@ pub bytes-show : (after (emptyStream 1) ≡ shown 0 0 11)
     × (after (head 9 ++ 0 ∷ 125 ∷ 0 ∷ []) ≡ shown 23 11 12)
     × ((closed (arrived at_start (head 13))).number ≡ 21)
     × ((closed (arrived at_start (head 13))).fault ≡ 9)
-unfolding all all_from fourAt refusing legalBeside atFirst knownVersion read_by held periodAt start_at spelled goodBody read_body readChannel readChannels unusedBits readBodies readRecord at_start total ended shift streamChannels showsBy unknown other headerShows endShows openShows headerStep recordStep step closed arrived
-bytes-show = (refl, refl, refl, refl, refl, refl, refl, refl, refl, refl, refl, refl, refl, refl, refl, refl, refl, refl, refl, refl)
+unfolding all all_from four_at refusing legal_beside at_first known_version read_by held period_at start_at spelled good_body read_body read_channel read_channels unused_bits read_bodies read_record at_start total ended shift stream_channels shows_by unknown other header_shows end_shows open_shows header_step record_step step closed arrived
+bytes_show = (refl, refl, refl, refl, refl, refl, refl, refl, refl, refl, refl, refl, refl, refl, refl, refl, refl, refl, refl, refl)

@@ -17,18 +17,18 @@ abbrev pub fed : {W : Type 0} → Arrival → W → Fed W
 fed p v = record { arrival = p; machine = v }
 
 -- samples to the last, so many channels; the registers that a machine holds, and how it plays ticks under each version
-module _ {A W : Type 0} (last c : ℕ) (registersOf : W → List Command) (k : ℕ → Mechanism A W Tick) where
+module _ {A W : Type 0} (last c : ℕ) (registers_of : W → List Command) (k : ℕ → Mechanism A W Tick) where
   -- what a byte does to a board
   abbrev pub step_of : Fed W → ℕ → Step
-  step_of w b = step last c (registersOf w.machine) w.arrival b
+  step_of w b = step last c (registers_of w.machine) w.arrival b
 
-  unfoldable pub stepFrames : Fed W → Step → List A
-  stepFrames w (holds p) = []
-  stepFrames w (plays t p) = (k w.arrival.version).frames w.machine t
+  unfoldable pub step_frames : Fed W → Step → List A
+  step_frames w (holds p) = []
+  step_frames w (plays t p) = (k w.arrival.version).frames w.machine t
 
-  unfoldable pub stepAfter : Fed W → Step → Fed W
-  stepAfter w (holds p) = fed p w.machine
-  stepAfter w (plays t p) = fed p ((k w.arrival.version).after w.machine t)
+  unfoldable pub step_after : Fed W → Step → Fed W
+  step_after w (holds p) = fed p w.machine
+  step_after w (plays t p) = fed p ((k w.arrival.version).after w.machine t)
 
   abbrev pub feeding : Mechanism A (Fed W) ℕ
-  feeding = record { frames = λ w b. stepFrames w (step_of w b); after = λ w b. stepAfter w (step_of w b) }
+  feeding = record { frames = λ w b. step_frames w (step_of w b); after = λ w b. step_after w (step_of w b) }

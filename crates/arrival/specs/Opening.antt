@@ -9,10 +9,10 @@ use Rattle.std.proofs.Math.Dec.{leb, eqb}
 use borrow.Author.Tests.{eq-eqb, ne_eqb, le-leb, lt-leb, lt-ltb, ltb-true}
 use Rattle.common.specs.Answers.{refusing}
 use Rattle.ticks.specs.declared.Command.{Command}
-use Rattle.records.specs.Format.{versionPlace, countedVersion, shift, readRecord}
+use Rattle.records.specs.Format.{version_place, counted_version, shift, read_record}
 use Rattle.records.specs.Prefixes.{Part}
 use Rattle.arrival.specs.declared.Arrival.{Arrival}
-use Rattle.arrival.specs.Arrive.{keptBytes, bytes_of, taken, total, ended, faulty, keep, endShows, openShows, holds, recordStep, step}
+use Rattle.arrival.specs.Arrive.{kept_bytes, bytes_of, taken, total, ended, faulty, keep, end_shows, open_shows, holds, record_step, step}
 
 -- ---- how far the stream s has arrived
 -- xs of the header or record at a place are kept
@@ -20,17 +20,17 @@ pub record Opening (at : ℕ) (xs : List ℕ) (p : Arrival) : Type 0 where
   pub place : p.place ≡ at
   pub kept : p.kept ≡ length xs
   pub bytes : bytes_of p ≡ xs
-  pub long : length p.bytes ≡ keptBytes
+  pub long : length p.bytes ≡ kept_bytes
   pub good : p.number ≡ 0
 
 -- after the header n records are left of a stream so long, of this version
 pub record Rest (size v at n : ℕ) (p : Arrival) : Type 0 where
   pub after : 0 < at
-  pub follow : versionPlace + p.follow ≡ size
+  pub follow : version_place + p.follow ≡ size
   pub count : p.records + n ≡ p.count
   pub version : p.version ≡ v
 
-pub open_more : (at : ℕ) (xs : List ℕ) (p : Arrival) (y : ℕ) → length xs < keptBytes → Opening at xs p → Opening at (xs ++ y ∷ []) (keep p y)
+pub open_more : (at : ℕ) (xs : List ℕ) (p : Arrival) (y : ℕ) → length xs < kept_bytes → Opening at xs p → Opening at (xs ++ y ∷ []) (keep p y)
 open_more at xs p y h o =
     record {
       place = o.place;
@@ -54,9 +54,9 @@ part_of s at xs ys e h =
     front (x ∷ xs) ys (suc i) l = front xs ys i (omega arith)
 
 -- ---- the header's length
-pub shift-most : (v : ℕ) → shift v ≤ 1
+pub shift_most : (v : ℕ) → shift v ≤ 1
 unfolding shift
-shift-most v = go (ltb v countedVersion)
+shift_most v = go (ltb v counted_version)
   where
     go : (b : Bool) → cond b 0 1 ≤ 1
     go true = omega arith
@@ -65,54 +65,54 @@ shift-most v = go (ltb v countedVersion)
 -- ---- at the end or not
 pub not-ended : (p : Arrival) → taken p < total p → ended p ≡ false
 unfolding ended
-not-ended p h = rw (ne_eqb (taken p) (total p) (λ q. omega arith)) (off (leb versionPlace (taken p)))
+not-ended p h = rw (ne_eqb (taken p) (total p) (λ q. omega arith)) (off (leb version_place (taken p)))
   where
     off : (b : Bool) → b && false ≡ false
     off true = refl
     off false = refl
 
-pub is-ended : (p : Arrival) → versionPlace ≤ taken p → taken p ≡ total p → ended p ≡ true
+pub is_ended : (p : Arrival) → version_place ≤ taken p → taken p ≡ total p → ended p ≡ true
 unfolding ended
-is-ended p h e = rw (le-leb versionPlace (taken p) h, eq-eqb (taken p) (total p) e)
+is_ended p h e = rw (le-leb version_place (taken p) h, eq-eqb (taken p) (total p) e)
 
 -- after the header the declared length is the stream's
-pub total-is : (size v at n : ℕ) (xs : List ℕ) (p : Arrival) → Opening at xs p → Rest size v at n p → total p ≡ size
+pub total_is : (size v at n : ℕ) (xs : List ℕ) (p : Arrival) → Opening at xs p → Rest size v at n p → total p ≡ size
 unfolding total
-total-is size v at n xs p o l =
+total_is size v at n xs p o l =
     let z : eqb p.place 0 ≡ false = ne_eqb p.place 0 (λ q. omega (arith, o.place, l.after)) in
     rw z l.follow
 
 module _ (last c : ℕ) (rs : List Command) (size v at n : ℕ) (xs : List ℕ) (p : Arrival) (o : Opening at xs p) (l : Rest size v at n p) where
   -- a byte of a record
-  pub record-byte : (b : ℕ) → 0 < n → at + length xs < size → step last c rs p b ≡ recordStep (keep p b) (readRecord last c (bytes_of (keep p b)) 0 rs)
+  pub record_byte : (b : ℕ) → 0 < n → at + length xs < size → step last c rs p b ≡ record_step (keep p b) (read_record last c (bytes_of (keep p b)) 0 rs)
   unfolding step
-  record-byte b m h =
+  record_byte b m h =
       let a : not (eqb p.number 0) ≡ false = rw (eq-eqb p.number 0 o.good) in
-      let e : ended p ≡ false = not-ended p (omega (arith, o.place, o.kept, total-is size v at n xs p o l)) in
+      let e : ended p ≡ false = not-ended p (omega (arith, o.place, o.kept, total_is size v at n xs p o l)) in
       let d : eqb p.place 0 ≡ false = ne_eqb p.place 0 (λ q. omega (arith, o.place, l.after)) in
       let f : leb p.count p.records ≡ false = lt-leb p.count p.records (omega (arith, l.count)) in
       rw (a, e, d, f)
 
   -- a byte left over
-  pub over-byte : (b : ℕ) → n ≡ 0 → at + length xs < size → step last c rs p b ≡ holds (faulty 23 p.place (keep p b))
+  pub over_byte : (b : ℕ) → n ≡ 0 → at + length xs < size → step last c rs p b ≡ holds (faulty 23 p.place (keep p b))
   unfolding step
-  over-byte b m h =
+  over_byte b m h =
       let a : not (eqb p.number 0) ≡ false = rw (eq-eqb p.number 0 o.good) in
-      let e : ended p ≡ false = not-ended p (omega (arith, o.place, o.kept, total-is size v at n xs p o l)) in
+      let e : ended p ≡ false = not-ended p (omega (arith, o.place, o.kept, total_is size v at n xs p o l)) in
       let d : eqb p.place 0 ≡ false = ne_eqb p.place 0 (λ q. omega (arith, o.place, l.after)) in
       let f : leb p.count p.records ≡ true = le-leb p.count p.records (omega (arith, l.count)) in
       rw (a, e, d, f)
 
-  pub open-quiet : at + length xs < size → openShows p ≡ p
-  unfolding openShows refusing
-  open-quiet h = rw (not-ended p (omega (arith, o.place, o.kept, total-is size v at n xs p o l)))
+  pub open_quiet : at + length xs < size → open_shows p ≡ p
+  unfolding open_shows refusing
+  open_quiet h = rw (not-ended p (omega (arith, o.place, o.kept, total_is size v at n xs p o l)))
 
-  pub open-over : versionPlace ≤ at → at + length xs ≡ size → openShows p ≡ faulty 23 p.place p
-  unfolding openShows refusing
-  open-over a h = rw (is-ended p (omega (arith, o.place)) (omega (arith, o.place, o.kept, total-is size v at n xs p o l)))
+  pub open_over : version_place ≤ at → at + length xs ≡ size → open_shows p ≡ faulty 23 p.place p
+  unfolding open_shows refusing
+  open_over a h = rw (is_ended p (omega (arith, o.place)) (omega (arith, o.place, o.kept, total_is size v at n xs p o l)))
 
-  pub end_quiet : (0 < n → at + length xs < size) → endShows p ≡ p
-  unfolding endShows refusing
+  pub end_quiet : (0 < n → at + length xs < size) → end_shows p ≡ p
+  unfolding end_shows refusing
   end_quiet h = go (ltb p.records p.count) refl
     where
       off : (b : Bool) → cond (b && false) (faulty 23 p.place p) p ≡ p
@@ -122,10 +122,10 @@ module _ (last c : ℕ) (rs : List Command) (size v at n : ℕ) (xs : List ℕ) 
       go : (b : Bool) → ltb p.records p.count ≡ b → cond (ended p && b) (faulty 23 p.place p) p ≡ p
       go true q =
           let m = ltb-true p.records p.count q in
-          rw (not-ended p (omega (arith, o.place, o.kept, total-is size v at n xs p o l, h (omega (arith, l.count)))))
+          rw (not-ended p (omega (arith, o.place, o.kept, total_is size v at n xs p o l, h (omega (arith, l.count)))))
       go false q = off (ended p)
 
-  pub end-missing : 0 < n → versionPlace ≤ at → at + length xs ≡ size → endShows p ≡ faulty 23 p.place p
-  unfolding endShows refusing
-  end-missing m a h =
-      rw (is-ended p (omega (arith, o.place)) (omega (arith, o.place, o.kept, total-is size v at n xs p o l)), lt-ltb p.records p.count (omega (arith, l.count)))
+  pub end_missing : 0 < n → version_place ≤ at → at + length xs ≡ size → end_shows p ≡ faulty 23 p.place p
+  unfolding end_shows refusing
+  end_missing m a h =
+      rw (is_ended p (omega (arith, o.place)) (omega (arith, o.place, o.kept, total_is size v at n xs p o l)), lt-ltb p.records p.count (omega (arith, l.count)))

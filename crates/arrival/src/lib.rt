@@ -3,11 +3,11 @@
 ghost use Rattle.std.specs.Prelude.{◌≡◌, true, ◌+◌, ◌^◌, ◌≤◌, ◌<◌, length, take, leb};
 ghost use Rattle.std.proofs.lemmas.List.Edits.{sets};
 ghost use Rattle.common.specs.Limits.{width};
-ghost use Rattle.common.specs.Bytes.{byte_at, fourAt};
-ghost use Rattle.records.specs.Format.{recordsPlace, knownVersion, versionOf, shift, streamChannels, tickCount, firstRecord, readRecord};
-ghost use Rattle.decoder.specs.Answers.{asRecord};
-ghost use Rattle.arrival.specs.Arrive.{keptBytes, at_start, taken, total, ended, faulty, keep, headed, played, showsBy, unknown, other, headerShows, endShows, openShows, headerStep, recordStep, holds, step, closed, statedChannels, noState, recordShows, restShows, shows, keeps, keptFault, mostRecords, legalArrival};
-ghost use Rattle.arrival.specs.Answers.{asTook};
+ghost use Rattle.common.specs.Bytes.{byte_at, four_at};
+ghost use Rattle.records.specs.Format.{records_place, known_version, version_of, shift, stream_channels, tick_count, first_record, read_record};
+ghost use Rattle.decoder.specs.Answers.{as_record};
+ghost use Rattle.arrival.specs.Arrive.{kept_bytes, at_start, taken, total, ended, faulty, keep, headed, played, shows_by, unknown, other, header_shows, end_shows, open_shows, header_step, record_step, holds, step, closed, stated_channels, no_state, record_shows, rest_shows, shows, keeps, kept_fault, most_records, legal_arrival};
+ghost use Rattle.arrival.specs.Answers.{as_took};
 ghost use Rattle.arrival.specs.Ready.{Ready};
 ghost use Rattle.arrival.specs.Ahead.{awaits, Found, laid};
 
@@ -70,8 +70,8 @@ pub fn at_start() -> Arrival
 
 // The number that four kept bytes spell.
 fn kept_four(bytes: [u8; KEPT_BYTES], at: usize) -> u32
-    requires { at + 4 ≤ keptBytes }
-    ensures { result ≡ fourAt bytes at }
+    requires { at + 4 ≤ kept_bytes }
+    ensures { result ≡ four_at bytes at }
 {
     four(&bytes, at) as u32
 }
@@ -84,25 +84,25 @@ fn kept_byte(bytes: [u8; KEPT_BYTES], at: usize) -> u32
 
 // The numbers of a header that the kept bytes begin: its length, its tick count, how many channels it is for, and where it says that.
 fn head_len(bytes: [u8; KEPT_BYTES]) -> usize
-    ensures { (result ≡ firstRecord bytes) × (result ≤ recordsPlace) }
+    ensures { (result ≡ first_record bytes) × (result ≤ records_place) }
 {
     decoder::first_record(&bytes)
 }
 
 fn kept_count(bytes: [u8; KEPT_BYTES]) -> u32
-    ensures { result ≡ tickCount bytes }
+    ensures { result ≡ tick_count bytes }
 {
     decoder::count_of(&bytes) as u32
 }
 
 fn kept_channels(bytes: [u8; KEPT_BYTES]) -> usize
-    ensures { result ≡ streamChannels bytes }
+    ensures { result ≡ stream_channels bytes }
 {
     decoder::channels_in(&bytes)
 }
 
 fn said_at(bytes: [u8; KEPT_BYTES]) -> usize
-    ensures { (result ≡ 4 + shift (versionOf bytes)) × (result ≤ 5) }
+    ensures { (result ≡ 4 + shift (version_of bytes)) × (result ≤ 5) }
 {
     VERSION_PLACE + decoder::shift(bytes[VERSION_PLACE])
 }
@@ -115,8 +115,8 @@ fn kept_record(
     kept: usize,
     registers: [Command; WIDTH],
 ) -> Record
-    requires { (kept ≤ keptBytes) × (channels ≤ width) }
-    ensures { result ≡ asRecord registers 0 (readRecord last channels (take kept bytes) 0 registers) }
+    requires { (kept ≤ kept_bytes) × (channels ≤ width) }
+    ensures { result ≡ as_record registers 0 (read_record last channels (take kept bytes) 0 registers) }
 {
     decoder::read_record(last, channels, &bytes[..kept], 0, registers)
 }
@@ -167,7 +167,7 @@ fn faulty(number: u32, place: u64, p: Arrival) -> Arrival
 }
 
 fn keep(p: Arrival, b: u8) -> Arrival
-    requires { p.kept < keptBytes }
+    requires { p.kept < kept_bytes }
     ensures { result ≡ keep p b }
 {
     let at = p.kept;
@@ -211,7 +211,7 @@ fn played(p: Arrival) -> Arrival
 // ---- faults
 
 fn known_version(v: u32) -> bool
-    ensures { result ≡ knownVersion v }
+    ensures { result ≡ known_version v }
 {
     is_between(records::FIRST_VERSION as u32, records::VERSION as u32, v)
 }
@@ -219,7 +219,7 @@ fn known_version(v: u32) -> bool
 // Whether the byte at a place of an open header is in, and isn't the one by which the declared end shows.
 fn shows_by(at: usize, kept: usize, ended: bool) -> bool
     requires { at ≤ 5 }
-    ensures { result ≡ showsBy at kept ended }
+    ensures { result ≡ shows_by at kept ended }
 {
     if kept <= at {
         return false;
@@ -252,7 +252,7 @@ fn is_other(channels: usize, bytes: [u8; KEPT_BYTES], kept: usize, ended: bool) 
 
 fn header_shows(channels: usize, p: Arrival) -> Arrival
     requires { taken p < 2 ^ 41 }
-    ensures { result ≡ headerShows channels p }
+    ensures { result ≡ header_shows channels p }
 {
     let bytes = p.bytes;
     let kept = p.kept;
@@ -275,7 +275,7 @@ fn header_shows(channels: usize, p: Arrival) -> Arrival
 // At the declared end, a missing record.
 fn end_shows(p: Arrival) -> Arrival
     requires { taken p < 2 ^ 41 }
-    ensures { result ≡ endShows p }
+    ensures { result ≡ end_shows p }
 {
     if p.count <= p.records {
         return p;
@@ -289,7 +289,7 @@ fn end_shows(p: Arrival) -> Arrival
 // At the declared end, an open record.
 fn open_shows(p: Arrival) -> Arrival
     requires { taken p < 2 ^ 41 }
-    ensures { result ≡ openShows p }
+    ensures { result ≡ open_shows p }
 {
     if is_ended(p) {
         return faulty(23, p.place, p);
@@ -301,7 +301,7 @@ fn open_shows(p: Arrival) -> Arrival
 
 fn header_step(channels: usize, p: Arrival) -> Arrival
     requires { taken p < 2 ^ 41 }
-    ensures { result ≡ headerStep channels p }
+    ensures { result ≡ header_step channels p }
 {
     let bytes = p.bytes;
     if p.kept == head_len(bytes) {
@@ -311,7 +311,7 @@ fn header_step(channels: usize, p: Arrival) -> Arrival
 }
 
 fn holds(registers: [Command; WIDTH], p: Arrival) -> Took
-    ensures { result ≡ asTook registers (holds p) }
+    ensures { result ≡ as_took registers (holds p) }
 {
     Took {
         whole: false,
@@ -325,9 +325,9 @@ fn holds(registers: [Command; WIDTH], p: Arrival) -> Took
 
 fn record_step(last: u32, channels: usize, registers: [Command; WIDTH], p: Arrival) -> Took
     requires p_bound { taken p < 2 ^ 41 }
-    requires kept_le_kept_bytes { (p.kept ≤ keptBytes) × (p.records + 1 < 2 ^ 32) }
+    requires kept_le_kept_bytes { (p.kept ≤ kept_bytes) × (p.records + 1 < 2 ^ 32) }
     requires channels_le_width { channels ≤ width }
-    ensures { result ≡ asTook registers (recordStep p (readRecord last channels (take p.kept p.bytes) 0 registers)) }
+    ensures { result ≡ as_took registers (record_step p (read_record last channels (take p.kept p.bytes) 0 registers)) }
 {
     let bytes = p.bytes;
     let kept = p.kept;
@@ -350,7 +350,7 @@ fn record_step(last: u32, channels: usize, registers: [Command; WIDTH], p: Arriv
 pub fn step(last: u32, channels: usize, registers: [Command; WIDTH], p: Arrival, b: u8) -> Took
     requires few { channels ≤ width }
     requires ready { p.number ≡ 0 → Ready p }
-    ensures { result ≡ asTook registers (step last channels registers p b) }
+    ensures { result ≡ as_took registers (step last channels registers p b) }
 {
     if p.number != 0 {
         return holds(registers, p);
@@ -404,7 +404,7 @@ pub fn ahead(
 
 // The kept bytes with a run of bytes from the first on.
 fn lay(bytes: [u8; KEPT_BYTES], run: &[u8]) -> [u8; KEPT_BYTES]
-    requires { length run.now ≤ keptBytes }
+    requires { length run.now ≤ kept_bytes }
     ensures { result ≡ sets bytes 0 run.now }
 {
     let mut laid = bytes;
@@ -419,9 +419,9 @@ fn lay(bytes: [u8; KEPT_BYTES], run: &[u8]) -> [u8; KEPT_BYTES]
 // The arrival after a whole record, which it awaited: its bytes are kept as if they had come one by one.
 pub fn with_record(p: Arrival, run: &[u8]) -> Arrival
     requires awaited { awaits p ≡ true }
-    requires room { length run.now ≤ keptBytes }
+    requires room { length run.now ≤ kept_bytes }
     requires few { p.place + length run.now < 2 ^ 41 }
-    ensures { result ≡ endShows (played (laid p run.now)) }
+    ensures { result ≡ end_shows (played (laid p run.now)) }
 {
     let bytes = p.bytes;
     let laid = lay(bytes, run);
@@ -449,7 +449,7 @@ pub fn close(p: Arrival) -> Arrival
 
 // How many records there may be: none while the header is open.
 fn most_records(p: Arrival) -> u32
-    ensures { result ≡ mostRecords p }
+    ensures { result ≡ most_records p }
 {
     if p.place == 0 {
         return 0;
@@ -458,7 +458,7 @@ fn most_records(p: Arrival) -> u32
 }
 
 fn stated_channels(p: Arrival) -> u32
-    ensures { result ≡ statedChannels p }
+    ensures { result ≡ stated_channels p }
 {
     if p.version < records::COUNTED_VERSION as u32 {
         return records::OLD_CHANNELS as u32;
@@ -468,9 +468,9 @@ fn stated_channels(p: Arrival) -> u32
 
 // What an open record shows.
 fn record_shows(last: u32, channels: usize, registers: [Command; WIDTH], p: Arrival) -> Arrival
-    requires p_bound { (taken p < 2 ^ 40) × (p.kept ≤ keptBytes) }
+    requires p_bound { (taken p < 2 ^ 40) × (p.kept ≤ kept_bytes) }
     requires channels_le_width { channels ≤ width }
-    ensures { result ≡ recordShows p (readRecord last channels (take p.kept p.bytes) 0 registers) }
+    ensures { result ≡ record_shows p (read_record last channels (take p.kept p.bytes) 0 registers) }
 {
     let bytes = p.bytes;
     let kept = p.kept;
@@ -488,7 +488,7 @@ fn record_shows(last: u32, channels: usize, registers: [Command; WIDTH], p: Arri
 fn rest_shows(last: u32, channels: usize, registers: [Command; WIDTH], p: Arrival) -> Arrival
     requires p_bound { taken p < 2 ^ 40 }
     requires channels_le_width { channels ≤ width }
-    ensures { result ≡ restShows last channels registers p }
+    ensures { result ≡ rest_shows last channels registers p }
 {
     if p.kept == 0 {
         return end_shows(p);
@@ -533,7 +533,7 @@ fn keeps(p: Arrival, q: Arrival) -> bool
 
 // Whether a number is 0 or one of the faults that are kept.
 pub fn is_kept_fault(n: u32) -> bool
-    ensures { result ≡ keptFault n }
+    ensures { result ≡ kept_fault n }
 {
     (n == 0) | (is_between(21, 23, n) | (n == 28))
 }
@@ -541,7 +541,7 @@ pub fn is_kept_fault(n: u32) -> bool
 // Whether an arrival that a caller lent is legal.
 pub fn is_legal(last: u32, channels: usize, registers: [Command; WIDTH], p: Arrival) -> bool
     requires { channels ≤ width }
-    ensures { (result ≡ legalArrival last channels registers p) × (result ≡ true → taken p < 2 ^ 40) }
+    ensures { (result ≡ legal_arrival last channels registers p) × (result ≡ true → taken p < 2 ^ 40) }
 {
     if most_records(p) < p.records {
         return false;

@@ -3,7 +3,7 @@ ghost use Rattle.std.specs.Prelude.{◌≡◌};
 ghost use Rattle.reader.specs.File.{lent};
 ghost use Rattle.reader.specs.Layouts.{LegalLayout};
 ghost use Rattle.reader.specs.Judge.{verdict};
-ghost use Rattle.reader.specs.Samples.{extentsOf};
+ghost use Rattle.reader.specs.Samples.{extents_of};
 ghost use Rattle.decoder.specs.Remaining.{Good};
 ghost use Rattle.board.specs.Leading.{shorter, Led};
 
@@ -41,7 +41,7 @@ pub fn lead(
 ) -> Beginning
     requires layout { LegalLayout layout }
     requires judged { (verdict (lent layout file.now)).number ≡ 0 }
-    requires table { extents ≡ extentsOf (lent layout file.now) }
+    requires table { extents ≡ extents_of (lent layout file.now) }
     requires good { Good layout.samples layout.channels stream.now }
     ensures { Led (lent layout file.now) stream.now keeping first result.machine result.registers result.place result.left }
 {

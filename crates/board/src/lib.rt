@@ -4,9 +4,9 @@ ghost use Rattle.common.specs.Answers.{outcome};
 ghost use Rattle.reader.specs.File.{lent};
 ghost use Rattle.reader.specs.Layouts.{LegalLayout};
 ghost use Rattle.reader.specs.Judge.{verdict};
-ghost use Rattle.voice.specs.Voice.{samplesOf};
+ghost use Rattle.voice.specs.Voice.{samples_of};
 ghost use Rattle.decoder.specs.Remaining.{Good};
-ghost use Rattle.board.specs.Board.{boardOf, playStreamFromOf, playStreamOf};
+ghost use Rattle.board.specs.Board.{board_of, play_stream_from_of, play_stream_of};
 
 use crate::lead::lead;
 use common::Answer;
@@ -19,7 +19,7 @@ fn play_records(layout: Layout, file: &[u8], stream: &[u8], first: usize, out: &
     requires layout { LegalLayout layout }
     requires judged { (verdict (lent layout file.now)).number ≡ 0 }
     requires good { Good layout.samples layout.channels stream.now }
-    ensures { outcome result out.new ≡ boardOf layout.samples layout.channels (samplesOf (lent layout file.now)) first stream.now out.old }
+    ensures { outcome result out.new ≡ board_of layout.samples layout.channels (samples_of (lent layout file.now)) first stream.now out.old }
 {
     let extents = reader::samples::extents(layout, file);
     let last = layout.samples as u32;
@@ -58,7 +58,7 @@ fn play_records(layout: Layout, file: &[u8], stream: &[u8], first: usize, out: &
 
 // Plays a stream's ticks from one on, counted from 0: the largest number of whole ticks whose frames fit into out; the rest of out stays.
 pub fn play_stream_from(stream: &[u8], file: &[u8], first: usize, out: &mut [i16]) -> Answer
-    ensures { outcome result out.new ≡ playStreamFromOf file.now stream.now first out.old }
+    ensures { outcome result out.new ≡ play_stream_from_of file.now stream.now first out.old }
 {
     let layout = reader::offsets::layout_of(file);
     let judged = reader::judge_by(layout, file);
@@ -74,7 +74,7 @@ pub fn play_stream_from(stream: &[u8], file: &[u8], first: usize, out: &mut [i16
 
 // The same from the stream's beginning.
 pub fn play_stream(stream: &[u8], file: &[u8], out: &mut [i16]) -> Answer
-    ensures { outcome result out.new ≡ playStreamOf file.now stream.now out.old }
+    ensures { outcome result out.new ≡ play_stream_of file.now stream.now out.old }
 {
     play_stream_from(stream, file, 0, out)
 }

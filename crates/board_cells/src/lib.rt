@@ -4,9 +4,9 @@ ghost use Rattle.std.specs.Prelude.{◌≡◌, ◌+◌, ◌≤◌, ◌<◌};
 ghost use Rattle.std.proofs.lemmas.List.Edits.{sets};
 ghost use Rattle.laws.specs.Ranges.{each};
 ghost use Rattle.common.specs.Limits.{width};
-ghost use Rattle.cells.specs.Cells.{voiceOf};
-ghost use Rattle.arrival.specs.Arrive.{keptBytes};
-ghost use Rattle.board_cells.specs.Cells.{wordPlace, numberPlace, lowCell, highCell, keptCell, word_of, startCells, wordCells, numberCells, Fronted, boardCells, wide_of, byte_of, byteIn, voicePlace, arrivalOf, machine_of, boardOf, feedCells, boardAfter};
+ghost use Rattle.cells.specs.Cells.{voice_of};
+ghost use Rattle.arrival.specs.Arrive.{kept_bytes};
+ghost use Rattle.board_cells.specs.Cells.{word_place, number_place, low_cell, high_cell, kept_cell, word_of, start_cells, word_cells, number_cells, Fronted, board_cells, wide_of, byte_of, byte_in, voice_place, arrival_of, machine_of, board_of, feed_cells, board_after};
 
 use arrival::{Arrival, KEPT_BYTES};
 use cells::{VOICE_CELLS, put, put_voice, voice_of};
@@ -40,19 +40,19 @@ const GREATEST_CELL: usize = 4294967295;
 // ---- from a board
 
 fn low(n: u64) -> u32
-    ensures { result ≡ lowCell n }
+    ensures { result ≡ low_cell n }
 {
     (n % CELL_SIZE) as u32
 }
 
 fn high(n: u64) -> u32
-    ensures { result ≡ highCell n }
+    ensures { result ≡ high_cell n }
 {
     (n / CELL_SIZE) as u32
 }
 
 fn kept_cell(n: usize) -> u32
-    ensures { result ≡ keptCell n }
+    ensures { result ≡ kept_cell n }
 {
     if n < GREATEST_CELL {
         return n as u32;
@@ -62,7 +62,7 @@ fn kept_cell(n: usize) -> u32
 
 // Four bytes, the first lowest.
 fn word_of(bytes: [u8; KEPT_BYTES], at: usize) -> u32
-    requires { at + 4 ≤ keptBytes }
+    requires { at + 4 ≤ kept_bytes }
     ensures { result ≡ word_of bytes at }
 {
     byte(&bytes, at)
@@ -72,7 +72,7 @@ fn word_of(bytes: [u8; KEPT_BYTES], at: usize) -> u32
 }
 
 fn words_of(bytes: [u8; KEPT_BYTES]) -> [u32; WORDS]
-    ensures { result ≡ wordCells bytes }
+    ensures { result ≡ word_cells bytes }
 {
     let mut words = [0u32; WORDS];
     for i in 0..WORDS {
@@ -82,21 +82,21 @@ fn words_of(bytes: [u8; KEPT_BYTES]) -> [u32; WORDS]
 }
 
 fn put_start(p: Arrival, cells: &mut [u32; BOARD_CELLS])
-    ensures { cells.new ≡ sets cells.old 0 (startCells p) }
+    ensures { cells.new ≡ sets cells.old 0 (start_cells p) }
 {
     let run = [low(p.place), high(p.place), kept_cell(p.kept)];
     put(&run, 0, cells);
 }
 
 fn put_words(bytes: [u8; KEPT_BYTES], cells: &mut [u32; BOARD_CELLS])
-    ensures { cells.new ≡ sets cells.old wordPlace (wordCells bytes) }
+    ensures { cells.new ≡ sets cells.old word_place (word_cells bytes) }
 {
     let run = words_of(bytes);
     put(&run, WORD_PLACE, cells);
 }
 
 fn put_numbers(p: Arrival, machine: Machine, cells: &mut [u32; BOARD_CELLS])
-    ensures { cells.new ≡ sets cells.old numberPlace (numberCells p machine) }
+    ensures { cells.new ≡ sets cells.old number_place (number_cells p machine) }
 {
     let run = [
         p.follow,
@@ -127,7 +127,7 @@ fn front_of(arrival: Arrival, machine: Machine) -> [u32; BOARD_CELLS]
 
 // The cells of a board.
 pub fn cells_of(board: Board) -> [u32; BOARD_CELLS]
-    ensures { result ≡ boardCells board }
+    ensures { result ≡ board_cells board }
 {
     let arrival = board.arrival;
     let machine = board.machine;
@@ -164,14 +164,14 @@ fn byte_of(cell: u32, k: usize) -> u8
 }
 
 fn byte_in(cells: &[u32; BOARD_CELLS], i: usize) -> u8
-    requires { i < keptBytes }
-    ensures { result ≡ byteIn cells.now i }
+    requires { i < kept_bytes }
+    ensures { result ≡ byte_in cells.now i }
 {
     byte_of(cells[WORD_PLACE + i / 4], i % 4)
 }
 
 fn bytes_of(cells: &[u32; BOARD_CELLS]) -> [u8; KEPT_BYTES]
-    ensures { result ≡ each (byteIn cells.now) keptBytes }
+    ensures { result ≡ each (byte_in cells.now) kept_bytes }
 {
     let mut bytes = [0u8; KEPT_BYTES];
     for i in 0..KEPT_BYTES {
@@ -187,7 +187,7 @@ fn size_of(cell: u32) -> usize
 }
 
 fn arrival_of(cells: &[u32; BOARD_CELLS]) -> Arrival
-    ensures { result ≡ arrivalOf cells.now }
+    ensures { result ≡ arrival_of cells.now }
 {
     let place = wide_of(cells[0], cells[1]);
     let fault = wide_of(cells[22], cells[23]);
@@ -208,7 +208,7 @@ fn arrival_of(cells: &[u32; BOARD_CELLS]) -> Arrival
 }
 
 fn voices_of(cells: &[u32; BOARD_CELLS]) -> [Voice; WIDTH]
-    ensures { result ≡ each (λ i. voiceOf cells.now (voicePlace i)) width }
+    ensures { result ≡ each (λ i. voice_of cells.now (voice_place i)) width }
 {
     let voice = Voice::fresh();
     let mut voices = [voice; WIDTH];
@@ -231,7 +231,7 @@ fn machine_of(cells: &[u32; BOARD_CELLS]) -> Machine
 
 // The board that cells say.
 pub fn board_of(cells: &[u32; BOARD_CELLS]) -> Board
-    ensures { result ≡ boardOf cells.now }
+    ensures { result ≡ board_of cells.now }
 {
     Board {
         arrival: arrival_of(cells),
@@ -243,7 +243,7 @@ pub fn board_of(cells: &[u32; BOARD_CELLS]) -> Board
 
 // A refusal, which is no fault that is kept, leaves the board's cells.
 pub fn put_board(reply: Reply, cells: &mut [u32; BOARD_CELLS])
-    ensures { cells.new ≡ boardAfter reply cells.old }
+    ensures { cells.new ≡ board_after reply cells.old }
 {
     if arrival::is_kept_fault(reply.answer.number) {
         let board = reply.board;
@@ -254,7 +254,7 @@ pub fn put_board(reply: Reply, cells: &mut [u32; BOARD_CELLS])
 
 // The answer of a call that takes bytes.
 pub fn put_feed(reply: Reply, answer: &mut [u64; FEED_CELLS])
-    ensures { answer.new ≡ feedCells reply }
+    ensures { answer.new ≡ feed_cells reply }
 {
     *answer = [
         reply.answer.number as u64,

@@ -3,5 +3,5 @@
 use Rattle.std.specs.Prelude.{ℕ}
 
 -- major times 1,000,000, plus minor times 1,000, plus patch: 0.8.0
-abbrev pub libraryVersion : ℕ
-libraryVersion = 8000
+abbrev pub library_version : ℕ
+library_version = 8000

@@ -1,22 +1,22 @@
 // The C library: each public call on plain numbers and slices. An answer is number, place and count; number 0 is accepted. A state is
 // its cells, and any numbers may stand in them.
 ghost use Rattle.std.specs.Prelude.{◌≡◌};
-ghost use Rattle.reader.specs.File.{channelCount, module_of};
-ghost use Rattle.reader.specs.Judge.{judgeOf};
-ghost use Rattle.player.specs.State.{freshState};
-ghost use Rattle.player.specs.Play.{playOf};
-ghost use Rattle.player.specs.Touch.{changePageOf, touch_of};
-ghost use Rattle.player.specs.Burst.{burstOf};
-ghost use Rattle.player.specs.Quiet.{whyQuietOf, whyAnswer};
-ghost use Rattle.cells.specs.Cells.{stateCells, state_of};
-ghost use Rattle.translator.specs.Translate.{translateOf};
-ghost use Rattle.board.specs.Board.{playStreamFromOf, playStreamOf};
-ghost use Rattle.feed.specs.Feed.{freshBoard, boardFeedOf, boardCloseOf};
-ghost use Rattle.board_cells.specs.Cells.{boardCells, boardOf, feedCells, boardAfter};
-ghost use Rattle.replies.specs.Answers.{answerCells, cellsAfter};
-ghost use Rattle.replies.specs.Pairs.{pairAfter, pairTickAfter};
-ghost use Rattle.capi.specs.Floats.{floatsOn, streamFloatsOn};
-ghost use Rattle.capi.specs.Version.{libraryVersion};
+ghost use Rattle.reader.specs.File.{channel_count, module_of};
+ghost use Rattle.reader.specs.Judge.{judge_of};
+ghost use Rattle.player.specs.State.{fresh_state};
+ghost use Rattle.player.specs.Play.{play_of};
+ghost use Rattle.player.specs.Touch.{change_page_of, touch_of};
+ghost use Rattle.player.specs.Burst.{burst_of};
+ghost use Rattle.player.specs.Quiet.{why_quiet_of, why_answer};
+ghost use Rattle.cells.specs.Cells.{state_cells, state_of};
+ghost use Rattle.translator.specs.Translate.{translate_of};
+ghost use Rattle.board.specs.Board.{play_stream_from_of, play_stream_of};
+ghost use Rattle.feed.specs.Feed.{fresh_board, board_feed_of, board_close_of};
+ghost use Rattle.board_cells.specs.Cells.{board_cells, board_of, feed_cells, board_after};
+ghost use Rattle.replies.specs.Answers.{answer_cells, cells_after};
+ghost use Rattle.replies.specs.Pairs.{pair_after, pair_tick_after};
+ghost use Rattle.capi.specs.Floats.{floats_on, stream_floats_on};
+ghost use Rattle.capi.specs.Version.{library_version};
 
 use board_cells::{BOARD_CELLS, FEED_CELLS, put_board, put_feed};
 use cells::CELLS;
@@ -28,7 +28,7 @@ const VERSION: u32 = 8000;
 // The version of the library that is linked.
 #[unsafe(no_mangle)]
 pub extern "C" fn lampthistle_version() -> u32
-    ensures { result ≡ libraryVersion }
+    ensures { result ≡ library_version }
 {
     VERSION
 }
@@ -36,7 +36,7 @@ pub extern "C" fn lampthistle_version() -> u32
 // Judges a file.
 #[unsafe(no_mangle)]
 pub extern "C" fn lampthistle_judge(file: &[u8], answer: &mut [u64; ANSWER_CELLS])
-    ensures { answer.new ≡ answerCells (judgeOf file.now) }
+    ensures { answer.new ≡ answer_cells (judge_of file.now) }
 {
     put_answer(reader::judge(file), answer);
 }
@@ -44,7 +44,7 @@ pub extern "C" fn lampthistle_judge(file: &[u8], answer: &mut [u64; ANSWER_CELLS
 // How many channels a file has by its tag, 0 where it has no tag that is known.
 #[unsafe(no_mangle)]
 pub extern "C" fn lampthistle_channels(file: &[u8]) -> u32
-    ensures { result ≡ channelCount (module_of file.now) }
+    ensures { result ≡ channel_count (module_of file.now) }
 {
     let layout = reader::offsets::layout_of(file);
     layout.channels as u32
@@ -53,7 +53,7 @@ pub extern "C" fn lampthistle_channels(file: &[u8]) -> u32
 // Writes the fresh state.
 #[unsafe(no_mangle)]
 pub extern "C" fn lampthistle_fresh(state: &mut [u32; CELLS])
-    ensures { state.new ≡ stateCells freshState }
+    ensures { state.new ≡ state_cells fresh_state }
 {
     *state = cells::cells_of(player::fresh());
 }
@@ -67,9 +67,9 @@ pub extern "C" fn lampthistle_play(
     out: &mut [i16],
     answer: &mut [u64; ANSWER_CELLS],
 )
-    ensures answered { answer.new ≡ answerCells (playOf file.now (state_of state.old) ticks out.old).reply.answer }
-    ensures stated { state.new ≡ cellsAfter (playOf file.now (state_of state.old) ticks out.old).reply state.old }
-    ensures sounded { out.new ≡ (playOf file.now (state_of state.old) ticks out.old).out }
+    ensures answered { answer.new ≡ answer_cells (play_of file.now (state_of state.old) ticks out.old).reply.answer }
+    ensures stated { state.new ≡ cells_after (play_of file.now (state_of state.old) ticks out.old).reply state.old }
+    ensures sounded { out.new ≡ (play_of file.now (state_of state.old) ticks out.old).out }
 {
     let reply = player::play(file, cells::state_of(state), ticks, out);
     put_reply(reply, state, answer);
@@ -85,8 +85,8 @@ pub extern "C" fn lampthistle_touch(
     position: u32,
     answer: &mut [u64; ANSWER_CELLS],
 )
-    ensures answered { answer.new ≡ answerCells (touch_of file.now (state_of state.old) page made position).answer }
-    ensures stated { state.new ≡ cellsAfter (touch_of file.now (state_of state.old) page made position) state.old }
+    ensures answered { answer.new ≡ answer_cells (touch_of file.now (state_of state.old) page made position).answer }
+    ensures stated { state.new ≡ cells_after (touch_of file.now (state_of state.old) page made position) state.old }
 {
     let reply = player::touch(file, cells::state_of(state), page, made, position);
     put_reply(reply, state, answer);
@@ -103,9 +103,9 @@ pub extern "C" fn lampthistle_touch_burst(
     answers: &mut [u32],
     answer: &mut [u64; ANSWER_CELLS],
 )
-    ensures answered { answer.new ≡ answerCells (burstOf file.now (state_of state.old) (record { pages = pages.entry.now; mades = mades.now; positions = positions.now }) answers.old).reply.answer }
-    ensures stated { state.new ≡ cellsAfter (burstOf file.now (state_of state.old) (record { pages = pages.entry.now; mades = mades.now; positions = positions.now }) answers.old).reply state.old }
-    ensures written { answers.new ≡ (burstOf file.now (state_of state.old) (record { pages = pages.entry.now; mades = mades.now; positions = positions.now }) answers.old).out }
+    ensures answered { answer.new ≡ answer_cells (burst_of file.now (state_of state.old) (record { pages = pages.entry.now; mades = mades.now; positions = positions.now }) answers.old).reply.answer }
+    ensures stated { state.new ≡ cells_after (burst_of file.now (state_of state.old) (record { pages = pages.entry.now; mades = mades.now; positions = positions.now }) answers.old).reply state.old }
+    ensures written { answers.new ≡ (burst_of file.now (state_of state.old) (record { pages = pages.entry.now; mades = mades.now; positions = positions.now }) answers.old).out }
 {
     let reply = player::touch_burst(
         file,
@@ -125,8 +125,8 @@ pub extern "C" fn lampthistle_change_page(
     state: &mut [u32; CELLS],
     answer: &mut [u64; ANSWER_CELLS],
 )
-    ensures answered { answer.new ≡ answerCells (changePageOf file.now (state_of state.old)).answer }
-    ensures stated { state.new ≡ cellsAfter (changePageOf file.now (state_of state.old)) state.old }
+    ensures answered { answer.new ≡ answer_cells (change_page_of file.now (state_of state.old)).answer }
+    ensures stated { state.new ≡ cells_after (change_page_of file.now (state_of state.old)) state.old }
 {
     let reply = player::change_page(file, cells::state_of(state));
     put_reply(reply, state, answer);
@@ -140,7 +140,7 @@ pub extern "C" fn lampthistle_why_quiet(
     channel: u32,
     answer: &mut [u64; ANSWER_CELLS],
 )
-    ensures { answer.new ≡ answerCells (whyAnswer (whyQuietOf file.now (state_of state.now) channel)) }
+    ensures { answer.new ≡ answer_cells (why_answer (why_quiet_of file.now (state_of state.now) channel)) }
 {
     let why = player::why_quiet(file, cells::state_of(state), channel);
     put_answer(why_answer(why), answer);
@@ -154,8 +154,8 @@ pub extern "C" fn lampthistle_translate(
     room: &mut [u8],
     answer: &mut [u64; ANSWER_CELLS],
 )
-    ensures answered { answer.new ≡ answerCells (translateOf file.now ticks room.old).reply }
-    ensures written { room.new ≡ (translateOf file.now ticks room.old).out }
+    ensures answered { answer.new ≡ answer_cells (translate_of file.now ticks room.old).reply }
+    ensures written { room.new ≡ (translate_of file.now ticks room.old).out }
 {
     put_answer(translator::translate(file, ticks, room), answer);
 }
@@ -168,8 +168,8 @@ pub extern "C" fn lampthistle_play_stream(
     out: &mut [i16],
     answer: &mut [u64; ANSWER_CELLS],
 )
-    ensures answered { answer.new ≡ answerCells (playStreamOf file.now stream.now out.old).reply }
-    ensures sounded { out.new ≡ (playStreamOf file.now stream.now out.old).out }
+    ensures answered { answer.new ≡ answer_cells (play_stream_of file.now stream.now out.old).reply }
+    ensures sounded { out.new ≡ (play_stream_of file.now stream.now out.old).out }
 {
     put_answer(board::play_stream(stream, file, out), answer);
 }
@@ -183,8 +183,8 @@ pub extern "C" fn lampthistle_play_stream_from(
     out: &mut [i16],
     answer: &mut [u64; ANSWER_CELLS],
 )
-    ensures answered { answer.new ≡ answerCells (playStreamFromOf file.now stream.now from out.old).reply }
-    ensures sounded { out.new ≡ (playStreamFromOf file.now stream.now from out.old).out }
+    ensures answered { answer.new ≡ answer_cells (play_stream_from_of file.now stream.now from out.old).reply }
+    ensures sounded { out.new ≡ (play_stream_from_of file.now stream.now from out.old).out }
 {
     let first = from as usize;
     put_answer(board::play_stream_from(stream, file, first, out), answer);
@@ -202,11 +202,11 @@ pub extern "C" fn lampthistle_play_floats(
     pair_tick: &mut u32,
     answer: &mut [u64; ANSWER_CELLS],
 )
-    ensures answered { answer.new ≡ answerCells (floatsOn file.now state.old ticks sides pair.old pair_tick.old out.old).reply.reply.answer }
-    ensures stated { state.new ≡ cellsAfter (floatsOn file.now state.old ticks sides pair.old pair_tick.old out.old).reply.reply state.old }
-    ensures paired { pair.new ≡ pairAfter (floatsOn file.now state.old ticks sides pair.old pair_tick.old out.old).reply.reply.answer (floatsOn file.now state.old ticks sides pair.old pair_tick.old out.old).reply.pair pair.old }
-    ensures ticked { pair_tick.new ≡ pairTickAfter (floatsOn file.now state.old ticks sides pair.old pair_tick.old out.old).reply.reply.answer (floatsOn file.now state.old ticks sides pair.old pair_tick.old out.old).reply.pair pair_tick.old }
-    ensures sounded { out.new ≡ (floatsOn file.now state.old ticks sides pair.old pair_tick.old out.old).out }
+    ensures answered { answer.new ≡ answer_cells (floats_on file.now state.old ticks sides pair.old pair_tick.old out.old).reply.reply.answer }
+    ensures stated { state.new ≡ cells_after (floats_on file.now state.old ticks sides pair.old pair_tick.old out.old).reply.reply state.old }
+    ensures paired { pair.new ≡ pair_after (floats_on file.now state.old ticks sides pair.old pair_tick.old out.old).reply.reply.answer (floats_on file.now state.old ticks sides pair.old pair_tick.old out.old).reply.pair pair.old }
+    ensures ticked { pair_tick.new ≡ pair_tick_after (floats_on file.now state.old ticks sides pair.old pair_tick.old out.old).reply.reply.answer (floats_on file.now state.old ticks sides pair.old pair_tick.old out.old).reply.pair pair_tick.old }
+    ensures sounded { out.new ≡ (floats_on file.now state.old ticks sides pair.old pair_tick.old out.old).out }
 {
     let old = pair_of(*pair, *pair_tick);
     let played = float_player::play_floats(file, cells::state_of(state), ticks, sides, old, out);
@@ -228,10 +228,10 @@ pub extern "C" fn lampthistle_play_stream_floats_from(
     pair_tick: &mut u32,
     answer: &mut [u64; ANSWER_CELLS],
 )
-    ensures answered { answer.new ≡ answerCells (streamFloatsOn file.now stream.now from sides pair.old pair_tick.old out.old).reply.answer }
-    ensures paired { pair.new ≡ pairAfter (streamFloatsOn file.now stream.now from sides pair.old pair_tick.old out.old).reply.answer (streamFloatsOn file.now stream.now from sides pair.old pair_tick.old out.old).reply.pair pair.old }
-    ensures ticked { pair_tick.new ≡ pairTickAfter (streamFloatsOn file.now stream.now from sides pair.old pair_tick.old out.old).reply.answer (streamFloatsOn file.now stream.now from sides pair.old pair_tick.old out.old).reply.pair pair_tick.old }
-    ensures sounded { out.new ≡ (streamFloatsOn file.now stream.now from sides pair.old pair_tick.old out.old).out }
+    ensures answered { answer.new ≡ answer_cells (stream_floats_on file.now stream.now from sides pair.old pair_tick.old out.old).reply.answer }
+    ensures paired { pair.new ≡ pair_after (stream_floats_on file.now stream.now from sides pair.old pair_tick.old out.old).reply.answer (stream_floats_on file.now stream.now from sides pair.old pair_tick.old out.old).reply.pair pair.old }
+    ensures ticked { pair_tick.new ≡ pair_tick_after (stream_floats_on file.now stream.now from sides pair.old pair_tick.old out.old).reply.answer (stream_floats_on file.now stream.now from sides pair.old pair_tick.old out.old).reply.pair pair_tick.old }
+    ensures sounded { out.new ≡ (stream_floats_on file.now stream.now from sides pair.old pair_tick.old out.old).out }
 {
     let old = pair_of(*pair, *pair_tick);
     let first = from as usize;
@@ -252,10 +252,10 @@ pub extern "C" fn lampthistle_play_stream_floats(
     pair_tick: &mut u32,
     answer: &mut [u64; ANSWER_CELLS],
 )
-    ensures answered { answer.new ≡ answerCells (streamFloatsOn file.now stream.now 0 sides pair.old pair_tick.old out.old).reply.answer }
-    ensures paired { pair.new ≡ pairAfter (streamFloatsOn file.now stream.now 0 sides pair.old pair_tick.old out.old).reply.answer (streamFloatsOn file.now stream.now 0 sides pair.old pair_tick.old out.old).reply.pair pair.old }
-    ensures ticked { pair_tick.new ≡ pairTickAfter (streamFloatsOn file.now stream.now 0 sides pair.old pair_tick.old out.old).reply.answer (streamFloatsOn file.now stream.now 0 sides pair.old pair_tick.old out.old).reply.pair pair_tick.old }
-    ensures sounded { out.new ≡ (streamFloatsOn file.now stream.now 0 sides pair.old pair_tick.old out.old).out }
+    ensures answered { answer.new ≡ answer_cells (stream_floats_on file.now stream.now 0 sides pair.old pair_tick.old out.old).reply.answer }
+    ensures paired { pair.new ≡ pair_after (stream_floats_on file.now stream.now 0 sides pair.old pair_tick.old out.old).reply.answer (stream_floats_on file.now stream.now 0 sides pair.old pair_tick.old out.old).reply.pair pair.old }
+    ensures ticked { pair_tick.new ≡ pair_tick_after (stream_floats_on file.now stream.now 0 sides pair.old pair_tick.old out.old).reply.answer (stream_floats_on file.now stream.now 0 sides pair.old pair_tick.old out.old).reply.pair pair_tick.old }
+    ensures sounded { out.new ≡ (stream_floats_on file.now stream.now 0 sides pair.old pair_tick.old out.old).out }
 {
     lampthistle_play_stream_floats_from(stream, file, 0, sides, out, pair, pair_tick, answer);
 }
@@ -263,7 +263,7 @@ pub extern "C" fn lampthistle_play_stream_floats(
 // Writes the board before its first byte.
 #[unsafe(no_mangle)]
 pub extern "C" fn lampthistle_board_fresh(board: &mut [u32; BOARD_CELLS])
-    ensures { board.new ≡ boardCells freshBoard }
+    ensures { board.new ≡ board_cells fresh_board }
 {
     *board = board_cells::cells_of(feed::board_fresh());
 }
@@ -278,9 +278,9 @@ pub extern "C" fn lampthistle_board_feed(
     out: &mut [i16],
     answer: &mut [u64; FEED_CELLS],
 )
-    ensures answered { answer.new ≡ feedCells (boardFeedOf file.now (boardOf board.old) bytes.now out.old).reply }
-    ensures stated { board.new ≡ boardAfter (boardFeedOf file.now (boardOf board.old) bytes.now out.old).reply board.old }
-    ensures sounded { out.new ≡ (boardFeedOf file.now (boardOf board.old) bytes.now out.old).out }
+    ensures answered { answer.new ≡ feed_cells (board_feed_of file.now (board_of board.old) bytes.now out.old).reply }
+    ensures stated { board.new ≡ board_after (board_feed_of file.now (board_of board.old) bytes.now out.old).reply board.old }
+    ensures sounded { out.new ≡ (board_feed_of file.now (board_of board.old) bytes.now out.old).out }
 {
     let reply = feed::board_feed(file, board_cells::board_of(board), bytes, out);
     put_board(reply, board);
@@ -294,8 +294,8 @@ pub extern "C" fn lampthistle_board_close(
     board: &mut [u32; BOARD_CELLS],
     answer: &mut [u64; ANSWER_CELLS],
 )
-    ensures answered { answer.new ≡ answerCells (boardCloseOf file.now (boardOf board.old)).answer }
-    ensures stated { board.new ≡ boardAfter (boardCloseOf file.now (boardOf board.old)) board.old }
+    ensures answered { answer.new ≡ answer_cells (board_close_of file.now (board_of board.old)).answer }
+    ensures stated { board.new ≡ board_after (board_close_of file.now (board_of board.old)) board.old }
 {
     let reply = feed::board_close(file, board_cells::board_of(board));
     put_board(reply, board);

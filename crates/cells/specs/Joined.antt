@@ -15,11 +15,11 @@ abbrev pub part_at : {A : Type 0} → ℕ → List A → ℕ → List A
 part_at k xs i = take k (drop (k * i) xs)
 
 -- a list's first n parts, joined
-pub joined-parts : {A : Type 0} (k : ℕ) (xs : List A) (f : ℕ → List A) (n : ℕ) → ((i : ℕ) → i < n → f i ≡ part_at k xs i) → joined f n ≡ take (k * n) xs
+pub joined_parts : {A : Type 0} (k : ℕ) (xs : List A) (f : ℕ → List A) (n : ℕ) → ((i : ℕ) → i < n → f i ≡ part_at k xs i) → joined f n ≡ take (k * n) xs
 unfolding joined
-joined-parts k xs f zero h = rw mul-zero
-joined-parts {A} k xs f (suc n) h =
-    rw (mul-suc, take-add (k * n) k xs, h n (omega arith)) (ap (λ (ys : List A). ys ++ part_at k xs n) (joined-parts k xs f n (λ i l. h i (omega arith))))
+joined_parts k xs f zero h = rw mul-zero
+joined_parts {A} k xs f (suc n) h =
+    rw (mul-suc, take-add (k * n) k xs, h n (omega arith)) (ap (λ (ys : List A). ys ++ part_at k xs n) (joined_parts k xs f n (λ i l. h i (omega arith))))
 
 module _ {A : Type 0} (k : ℕ) (f : ℕ → List A) (long : (i : ℕ) → length (f i) ≡ k) where
   pub length-joined : (n : ℕ) → length (joined f n) ≡ k * n
@@ -27,11 +27,11 @@ module _ {A : Type 0} (k : ℕ) (f : ℕ → List A) (long : (i : ℕ) → lengt
   length-joined zero = rw mul-zero
   length-joined (suc n) = rw (mul-suc, length-append (joined f n) (f n), length-joined n, long n)
 
-  part-last : (n : ℕ) → part_at k (joined f n ++ f n) n ≡ f n
-  part-last n = rw (drop_at (joined f n) (f n) (k * n) (length-joined n)) (take_all k (f n) (omega (arith, long n)))
+  part_last : (n : ℕ) → part_at k (joined f n ++ f n) n ≡ f n
+  part_last n = rw (drop_at (joined f n) (f n) (k * n) (length-joined n)) (take_all k (f n) (omega (arith, long n)))
 
-  part-before : (n i : ℕ) → i < n → part_at k (joined f n ++ f n) i ≡ part_at k (joined f n) i
-  part-before n i h =
+  part_before : (n i : ℕ) → i < n → part_at k (joined f n ++ f n) i ≡ part_at k (joined f n) i
+  part_before n i h =
       let next : k * suc i ≤ k * n = mul-le-mul_left k h in
       let room : k * i + k ≤ length (joined f n) = omega (arith, length-joined n, mul-suc k i) in
       rw (
@@ -44,5 +44,5 @@ module _ {A : Type 0} (k : ℕ) (f : ℕ → List A) (long : (i : ℕ) → lengt
   unfolding joined
   joined_at zero i h = absurd (omega arith)
   joined_at (suc n) i h =
-      ⊎_elim (λ (e : suc i ≡ suc n). let q : i ≡ n = omega arith in rw q (part-last n))
-      (λ (l : suc i < suc n). part-before n i (omega arith) ∙ joined_at n i (omega arith)) (eq-or-lt_of_le h)
+      ⊎_elim (λ (e : suc i ≡ suc n). let q : i ≡ n = omega arith in rw q (part_last n))
+      (λ (l : suc i < suc n). part_before n i (omega arith) ∙ joined_at n i (omega arith)) (eq-or-lt_of_le h)

@@ -18,12 +18,12 @@ pub record Putting (run : List ℕ) (at : ℕ) (cells₀ cells : List ℕ) (i : 
   pub whole : sets cells (at + i) (drop i run) ≡ sets cells₀ at run
 
 module _ (run : List ℕ) (at : ℕ) (cells₀ : List ℕ) where
-  pub put-begin : at + length run ≤ length cells₀ → Putting run at cells₀ cells₀ 0
-  put-begin h = record { long = refl; room = h; whole = rw add-zero }
+  pub put_begin : at + length run ≤ length cells₀ → Putting run at cells₀ cells₀ 0
+  put_begin h = record { long = refl; room = h; whole = rw add-zero }
 
   module _ (cells : List ℕ) (i : ℕ) (w : Putting run at cells₀ cells i) where
-    pub put-more : i < length run → Putting run at cells₀ (set cells (at + i) (get_or run i 0)) (i + 1)
-    put-more h =
+    pub put_more : i < length run → Putting run at cells₀ (set cells (at + i) (get_or run i 0)) (i + 1)
+    put_more h =
         let e : at + suc i ≡ suc (at + i) = omega arith in
         record {
           long = length-set cells (at + i) (get_or run i 0) ∙ w.long;
@@ -31,10 +31,10 @@ module _ (run : List ℕ) (at : ℕ) (cells₀ : List ℕ) where
           whole = rw (add-one i, e) (rw (drop-cons run i 0 h) at w.whole);
         }
 
-    pub put-end : length run ≤ i → cells ≡ sets cells₀ at run
-    put-end h = rw (drop_of_length-le run {i = i} h) at w.whole
+    pub put_end : length run ≤ i → cells ≡ sets cells₀ at run
+    put_end h = rw (drop_of_length-le run {i = i} h) at w.whole
 
-pub ruleset puts = (put-begin, put-more, put-end)
+pub ruleset puts = (put_begin, put_more, put_end)
 
 -- ---- part after part
 -- the cells before the end of a run that was written
@@ -53,9 +53,9 @@ module _ (s k n : ℕ) (f : ℕ → List ℕ) (cells₀ : List ℕ) where
   unfolding joined
   written_none h = record { few = omega arith; long = h; done = rw (mul-zero, add-zero) (sym (append-nil (take s cells₀))) }
 
-  pub written-more : (old new : List ℕ) (i : ℕ) → length (f i) ≡ k → Written s k n f cells₀ old i → i < n → new ≡ sets old (s + k * i) (f i) → Written s k n f cells₀ new (i + 1)
+  pub written_more : (old new : List ℕ) (i : ℕ) → length (f i) ≡ k → Written s k n f cells₀ old i → i < n → new ≡ sets old (s + k * i) (f i) → Written s k n f cells₀ new (i + 1)
   unfolding joined
-  written-more old new i m w h e =
+  written_more old new i m w h e =
       let next : s + k * suc i ≡ s + k * i + length (f i) = omega (arith, mul-suc k i, m) in
       let last : k * suc i ≤ k * n = mul-le-mul_left k h in
       record {

@@ -3,7 +3,7 @@ ghost use Rattle.std.specs.Prelude.{◌≡◌, ◌+◌, ◌≤◌, ◌<◌, leng
 ghost use Rattle.std.proofs.lemmas.List.Edits.{sets};
 ghost use Rattle.laws.specs.Ranges.{each};
 ghost use Rattle.common.specs.Limits.{width};
-ghost use Rattle.cells.specs.Cells.{plainCellCount, waveCellCount, ownCellCount, voiceCellCount, channelCellCount, cellCount, channelPlace, songCells, plainCells, waveCells, ownCells, voiceCells, channelCells, stateCells, finetuneCell, byteNumber, wordNumber, sampleUnless, finetuneOf, waveOf, channelOf, voiceOf, songOf, state_of};
+ghost use Rattle.cells.specs.Cells.{plain_cell_count, wave_cell_count, own_cell_count, voice_cell_count, channel_cell_count, cell_count, channel_place, song_cells, plain_cells, wave_cells, own_cells, voice_cells, channel_cells, state_cells, finetune_cell, byte_number, word_number, sample_unless, finetune_of, wave_of, channel_of, voice_of, song_of, state_of};
 
 use common::limits::{LAST_BYTE, LAST_WORD, SAMPLE_NUMBERS, WIDTH};
 use effects::Channel;
@@ -57,7 +57,7 @@ pub fn put(run: &[u32], at: usize, cells: &mut [u32])
 }
 
 fn put_song(song: Song, remainder: u32, cells: &mut [u32; CELLS])
-    ensures { cells.new ≡ sets cells.old 0 (songCells song remainder) }
+    ensures { cells.new ≡ sets cells.old 0 (song_cells song remainder) }
 {
     let run = [
         song.course.at.position,
@@ -79,7 +79,7 @@ fn put_song(song: Song, remainder: u32, cells: &mut [u32; CELLS])
 
 // The cell of a finetune: 0 to 7, or -8 to -1 for 8 to 15.
 fn finetune_cell(finetune: u8) -> u32
-    ensures { result ≡ finetuneCell finetune }
+    ensures { result ≡ finetune_cell finetune }
 {
     let cell = finetune as u32;
     if cell < LEAST_BELOW {
@@ -92,8 +92,8 @@ fn finetune_cell(finetune: u8) -> u32
 }
 
 fn put_plain(channel: Channel, at: usize, cells: &mut [u32; CELLS])
-    requires { at + plainCellCount ≤ cellCount }
-    ensures { cells.new ≡ sets cells.old at (plainCells channel) }
+    requires { at + plain_cell_count ≤ cell_count }
+    ensures { cells.new ≡ sets cells.old at (plain_cells channel) }
 {
     let run = [
         channel.latched as u32,
@@ -107,8 +107,8 @@ fn put_plain(channel: Channel, at: usize, cells: &mut [u32; CELLS])
 }
 
 fn put_wave(wave: Wave, at: usize, cells: &mut [u32; CELLS])
-    requires { at + waveCellCount ≤ cellCount }
-    ensures { cells.new ≡ sets cells.old at (waveCells wave) }
+    requires { at + wave_cell_count ≤ cell_count }
+    ensures { cells.new ≡ sets cells.old at (wave_cells wave) }
 {
     let run = [
         wave.x as u32,
@@ -120,8 +120,8 @@ fn put_wave(wave: Wave, at: usize, cells: &mut [u32; CELLS])
 }
 
 fn put_own(channel: Channel, at: usize, cells: &mut [u32; CELLS])
-    requires { at + ownCellCount ≤ cellCount }
-    ensures { cells.new ≡ sets cells.old at (ownCells channel) }
+    requires { at + own_cell_count ≤ cell_count }
+    ensures { cells.new ≡ sets cells.old at (own_cells channel) }
 {
     put_plain(channel, at, cells);
     put_wave(channel.vibrato, at + PLAIN_CELLS, cells);
@@ -130,8 +130,8 @@ fn put_own(channel: Channel, at: usize, cells: &mut [u32; CELLS])
 
 // Writes a voice's cells from a place on.
 pub fn put_voice(voice: Voice, at: usize, cells: &mut [u32])
-    requires { at + voiceCellCount ≤ length cells.old }
-    ensures { cells.new ≡ sets cells.old at (voiceCells voice) }
+    requires { at + voice_cell_count ≤ length cells.old }
+    ensures { cells.new ≡ sets cells.old at (voice_cells voice) }
 {
     let run = [
         voice.sample as u32,
@@ -145,8 +145,8 @@ pub fn put_voice(voice: Voice, at: usize, cells: &mut [u32])
 }
 
 fn put_channel(channel: Channel, voice: Voice, at: usize, cells: &mut [u32; CELLS])
-    requires { at + channelCellCount ≤ cellCount }
-    ensures { cells.new ≡ sets cells.old at (channelCells channel voice) }
+    requires { at + channel_cell_count ≤ cell_count }
+    ensures { cells.new ≡ sets cells.old at (channel_cells channel voice) }
 {
     put_own(channel, at, cells);
     put_voice(voice, at + OWN_CELLS, cells);
@@ -154,7 +154,7 @@ fn put_channel(channel: Channel, voice: Voice, at: usize, cells: &mut [u32; CELL
 
 // The cells of a state.
 pub fn cells_of(state: State) -> [u32; CELLS]
-    ensures { result ≡ stateCells state }
+    ensures { result ≡ state_cells state }
 {
     let song = state.song;
     let channels = song.channels;
@@ -174,7 +174,7 @@ pub fn cells_of(state: State) -> [u32; CELLS]
 
 // A number that is kept as a byte: a larger cell gives 255, which no legal sample, volume or wave has.
 fn byte_number(cell: u32) -> u8
-    ensures { result ≡ byteNumber cell }
+    ensures { result ≡ byte_number cell }
 {
     if cell < LAST_BYTE {
         cell as u8
@@ -185,7 +185,7 @@ fn byte_number(cell: u32) -> u8
 
 // A number that is kept in two bytes: a larger cell gives 65,535, which no legal period is.
 fn word_number(cell: u32) -> u16
-    ensures { result ≡ wordNumber cell }
+    ensures { result ≡ word_number cell }
 {
     if cell < LAST_WORD {
         cell as u16
@@ -196,7 +196,7 @@ fn word_number(cell: u32) -> u16
 
 // A sample's cell, unless a number beside it cannot be kept.
 fn sample_unless(lost: bool, cell: u32) -> u8
-    ensures { result ≡ sampleUnless lost cell }
+    ensures { result ≡ sample_unless lost cell }
 {
     if lost {
         return NO_SAMPLE;
@@ -206,8 +206,8 @@ fn sample_unless(lost: bool, cell: u32) -> u8
 
 // The wave whose cells begin at a place.
 fn wave_of(cells: &[u32; CELLS], at: usize) -> Wave
-    requires { at + waveCellCount ≤ cellCount }
-    ensures { result ≡ waveOf cells.now at }
+    requires { at + wave_cell_count ≤ cell_count }
+    ensures { result ≡ wave_of cells.now at }
 {
     Wave {
         x: byte_number(cells[at]),
@@ -219,7 +219,7 @@ fn wave_of(cells: &[u32; CELLS], at: usize) -> Wave
 
 // The finetune that a cell says: one outside -8 to 7 gives 16, which no legal state has.
 fn finetune_of(cell: u32) -> u8
-    ensures { result ≡ finetuneOf cell }
+    ensures { result ≡ finetune_of cell }
 {
     if cell < LEAST_BELOW {
         return cell as u8;
@@ -232,8 +232,8 @@ fn finetune_of(cell: u32) -> u8
 
 // The channel whose own cells begin at a place.
 fn channel_of(cells: &[u32; CELLS], at: usize) -> Channel
-    requires { at + ownCellCount ≤ cellCount }
-    ensures { result ≡ channelOf cells.now at }
+    requires { at + own_cell_count ≤ cell_count }
+    ensures { result ≡ channel_of cells.now at }
 {
     Channel {
         latched: sample_unless(LAST_BYTE < cells[at + 5], cells[at]),
@@ -249,8 +249,8 @@ fn channel_of(cells: &[u32; CELLS], at: usize) -> Channel
 
 // The voice whose cells begin at a place.
 pub fn voice_of(cells: &[u32], at: usize) -> Voice
-    requires { at + voiceCellCount ≤ length cells.now }
-    ensures { result ≡ voiceOf cells.now at }
+    requires { at + voice_cell_count ≤ length cells.now }
+    ensures { result ≡ voice_of cells.now at }
 {
     Voice {
         sample: sample_unless((1 < cells[at + 5]) | (LAST_WORD < cells[at + 4]), cells[at]),
@@ -263,7 +263,7 @@ pub fn voice_of(cells: &[u32], at: usize) -> Voice
 }
 
 fn channels_of(cells: &[u32; CELLS]) -> [Channel; WIDTH]
-    ensures { result ≡ each (λ i. channelOf cells.now (channelPlace i)) width }
+    ensures { result ≡ each (λ i. channel_of cells.now (channel_place i)) width }
 {
     let channel = effects::fresh_channel();
     let mut channels = [channel; WIDTH];
@@ -274,7 +274,7 @@ fn channels_of(cells: &[u32; CELLS]) -> [Channel; WIDTH]
 }
 
 fn voices_of(cells: &[u32; CELLS]) -> [Voice; WIDTH]
-    ensures { result ≡ each (λ i. voiceOf cells.now (channelPlace i + ownCellCount)) width }
+    ensures { result ≡ each (λ i. voice_of cells.now (channel_place i + own_cell_count)) width }
 {
     let voice = Voice::fresh();
     let mut voices = [voice; WIDTH];
@@ -286,7 +286,7 @@ fn voices_of(cells: &[u32; CELLS]) -> [Voice; WIDTH]
 
 // The song with these channels.
 fn song_of(cells: &[u32; CELLS], channels: [Channel; WIDTH]) -> Song
-    ensures { result ≡ songOf cells.now channels }
+    ensures { result ≡ song_of cells.now channels }
 {
     Song {
         course: Course {

@@ -11,39 +11,39 @@ module _ {A : Type 0} (refuse : ℕ → ℕ → A) (work : A) where
   unfolding refusing
   no_line x e = e
 
-  pub line-given : (number place : ℕ) (b : Bool) (ls : List Line) (x : A) → b ≡ true → x ≡ refuse number place → x ≡ refusing refuse work (line number b place ∷ ls)
+  pub line_given : (number place : ℕ) (b : Bool) (ls : List Line) (x : A) → b ≡ true → x ≡ refuse number place → x ≡ refusing refuse work (line number b place ∷ ls)
   unfolding refusing
-  line-given number place b ls x h e = rw h e
+  line_given number place b ls x h e = rw h e
 
-  pub line-passed : (number place : ℕ) (b : Bool) (ls : List Line) (x : A) → b ≡ false → x ≡ refusing refuse work ls → x ≡ refusing refuse work (line number b place ∷ ls)
+  pub line_passed : (number place : ℕ) (b : Bool) (ls : List Line) (x : A) → b ≡ false → x ≡ refusing refuse work ls → x ≡ refusing refuse work (line number b place ∷ ls)
   unfolding refusing
-  line-passed number place b ls x h e = rw h e
+  line_passed number place b ls x h e = rw h e
 
-pub ruleset lines = (no_line, line-given, line-passed)
+pub ruleset lines = (no_line, line_given, line_passed)
 
 -- ---- what holds of a table's verdict
 -- no line was given
 abbrev pub Passed : List Line → Type 0
 Passed ls = (i : ℕ) → (get_or ls i (line 0 false 0)).given ≡ false
 
-passed-more : (l : Line) (ls : List Line) → l.given ≡ false → Passed ls → Passed (l ∷ ls)
-passed-more l ls e p zero = e
-passed-more l ls e p (suc i) = p i
+passed_more : (l : Line) (ls : List Line) → l.given ≡ false → Passed ls → Passed (l ∷ ls)
+passed_more l ls e p zero = e
+passed_more l ls e p (suc i) = p i
 
 -- what holds of every refusal, and of the work where no line was given, holds of the call
-pub refusing-has : {A : Type 0} (P : A → Type 0) (refuse : ℕ → ℕ → A) (work : A) (ls : List Line) → ((number place : ℕ) → P (refuse number place)) → (Passed ls → P work) → P (refusing refuse work ls)
+pub refusing_has : {A : Type 0} (P : A → Type 0) (refuse : ℕ → ℕ → A) (work : A) (ls : List Line) → ((number place : ℕ) → P (refuse number place)) → (Passed ls → P work) → P (refusing refuse work ls)
 unfolding refusing
-refusing-has P refuse work [] f g = g (λ i. refl)
-refusing-has P refuse work (l ∷ ls) f g = either P l.given _ _ (λ e. f l.number l.place) (λ e. refusing-has P refuse work ls f (λ p. g (passed-more l ls e p)))
+refusing_has P refuse work [] f g = g (λ i. refl)
+refusing_has P refuse work (l ∷ ls) f g = either P l.given _ _ (λ e. f l.number l.place) (λ e. refusing_has P refuse work ls f (λ p. g (passed_more l ls e p)))
 
 -- where the work answers 0 and the call does not, the call has refused: it has left what every refusal leaves
-pub refused-keeps : {A B : Type 0} (number : A → ℕ) (part : A → B) (kept : B) (refuse : ℕ → ℕ → A) (work : A) (ls : List Line) → number work ≡ 0 → ((n place : ℕ) → part (refuse n place) ≡ kept) → (number (refusing refuse work ls) ≡ 0 → ⊥) → part (refusing refuse work ls) ≡ kept
-refused-keeps {A} number part kept refuse work ls z q = refusing-has (λ (a : A). (number a ≡ 0 → ⊥) → part a ≡ kept) refuse work ls (λ n place h. q n place) (λ p h. absurd (h z))
+pub refused_keeps : {A B : Type 0} (number : A → ℕ) (part : A → B) (kept : B) (refuse : ℕ → ℕ → A) (work : A) (ls : List Line) → number work ≡ 0 → ((n place : ℕ) → part (refuse n place) ≡ kept) → (number (refusing refuse work ls) ≡ 0 → ⊥) → part (refusing refuse work ls) ≡ kept
+refused_keeps {A} number part kept refuse work ls z q = refusing_has (λ (a : A). (number a ≡ 0 → ⊥) → part a ≡ kept) refuse work ls (λ n place h. q n place) (λ p h. absurd (h z))
 
 -- where the verdict is 0, the first line was not given, and the verdict of the others is 0
-pub line-not-given : (l : Line) (ls : List Line) → 0 < l.number → (refusing refused (accepted 0) (l ∷ ls)).number ≡ 0 → (l.given ≡ false) × ((refusing refused (accepted 0) ls).number ≡ 0)
+pub line_not_given : (l : Line) (ls : List Line) → 0 < l.number → (refusing refused (accepted 0) (l ∷ ls)).number ≡ 0 → (l.given ≡ false) × ((refusing refused (accepted 0) ls).number ≡ 0)
 unfolding refusing
-line-not-given l ls h e = by l.given e
+line_not_given l ls h e = by l.given e
   where
     by : (t : Bool) → (cond t (refused l.number l.place) (refusing refused (accepted 0) ls)).number ≡ 0 → (t ≡ false) × ((refusing refused (accepted 0) ls).number ≡ 0)
     by true q = let z : ⊥ = omega arith in absurd z

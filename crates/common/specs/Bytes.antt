@@ -11,12 +11,12 @@ abbrev pub word_at : List ℕ → ℕ → ℕ
 word_at xs i = byte_at xs i * 256 + byte_at xs (i + 1)
 
 -- the number that the four bytes at a place spell
-unfoldable pub fourAt : List ℕ → ℕ → ℕ
-fourAt s at = ((byte_at s at * 256 + byte_at s (at + 1)) * 256 + byte_at s (at + 2)) * 256 + byte_at s (at + 3)
+unfoldable pub four_at : List ℕ → ℕ → ℕ
+four_at s at = ((byte_at s at * 256 + byte_at s (at + 1)) * 256 + byte_at s (at + 2)) * 256 + byte_at s (at + 3)
 
 -- and the four bytes of a number
-unfoldable pub fourBytes : ℕ → List ℕ
-fourBytes n = n / 256 / 256 / 256 % 256 ∷ n / 256 / 256 % 256 ∷ n / 256 % 256 ∷ n % 256 ∷ []
+unfoldable pub four_bytes : ℕ → List ℕ
+four_bytes n = n / 256 / 256 / 256 % 256 ∷ n / 256 / 256 % 256 ∷ n / 256 % 256 ∷ n % 256 ∷ []
 
 -- a flag: 1 or 0
 abbrev pub bit : Bool → ℕ

@@ -7,56 +7,56 @@ abbrev pub width : ℕ
 width = 8
 
 -- how many sample numbers there are, with 0 for none; a file may have fewer
-abbrev pub sampleNumbers : ℕ
-sampleNumbers = 32
+abbrev pub sample_numbers : ℕ
+sample_numbers = 32
 
 -- volumes to 64
 abbrev pub loudest : ℕ
 loudest = 64
 
 -- tempo 32 to 255
-abbrev pub leastTempo : ℕ
-leastTempo = 32
+abbrev pub least_tempo : ℕ
+least_tempo = 32
 
-abbrev pub greatestTempo : ℕ
-greatestTempo = 255
+abbrev pub greatest_tempo : ℕ
+greatest_tempo = 255
 
 -- a byte: the largest slide memory and offset / 256
-abbrev pub lastByte : ℕ
-lastByte = 255
+abbrev pub last_byte : ℕ
+last_byte = 255
 
 -- the largest number of two bytes
-abbrev pub lastWord : ℕ
-lastWord = 65535
+abbrev pub last_word : ℕ
+last_word = 65535
 
 -- 64 rows, to 63
 abbrev pub rows : ℕ
 rows = 64
 
-abbrev pub lastRow : ℕ
-lastRow = 63
+abbrev pub last_row : ℕ
+last_row = 63
 
 -- a cell's period is 0 or 113 to 856
-abbrev pub leastCellPeriod : ℕ
-leastCellPeriod = 113
+abbrev pub least_cell_period : ℕ
+least_cell_period = 113
 
-abbrev pub greatestCellPeriod : ℕ
-greatestCellPeriod = 856
+abbrev pub greatest_cell_period : ℕ
+greatest_cell_period = 856
 
 -- a state's and a tick's period is 0 or 108 to 907, the least and the greatest of the periods of all finetunes
-abbrev pub leastPeriod : ℕ
-leastPeriod = 108
+abbrev pub least_period : ℕ
+least_period = 108
 
-abbrev pub greatestPeriod : ℕ
-greatestPeriod = 907
+abbrev pub greatest_period : ℕ
+greatest_period = 907
 
 abbrev pub between : ℕ → ℕ → ℕ → Bool
 between least greatest n = leb least n && leb n greatest
 
-abbrev pub legalPeriod : ℕ → Bool
-legalPeriod p = eqb p 0 || between leastPeriod greatestPeriod p
+abbrev pub legal_period : ℕ → Bool
+legal_period p = eqb p 0 || between least_period greatest_period p
 
 -- ---- a period of a cell
 -- neither 0 nor 113 to 856
-abbrev pub badPeriod : ℕ → Bool
-badPeriod p = not (eqb p 0) && (ltb p leastCellPeriod || ltb greatestCellPeriod p)
+abbrev pub bad_period : ℕ → Bool
+bad_period p = not (eqb p 0) && (ltb p least_cell_period || ltb greatest_cell_period p)

@@ -1,7 +1,7 @@
 // Bytes, and numbers of two and four bytes, the high byte first.
 ghost use Rattle.std.specs.Prelude.{◌≡◌, ◌+◌, ◌*◌, ◌^◌, ◌≤◌, ◌<◌, length};
 ghost use Rattle.std.proofs.lemmas.List.Edits.{sets};
-ghost use Rattle.common.specs.Bytes.{byte_at, word_at, fourAt, fourBytes, bit};
+ghost use Rattle.common.specs.Bytes.{byte_at, word_at, four_at, four_bytes, bit};
 
 pub fn wide(x: u8) -> usize
     ensures { (result ≡ x) × (result < 256) }
@@ -41,7 +41,7 @@ pub fn pair(high: u8, low: u8) -> u32
 
 pub fn four(bytes: &[u8], at: usize) -> usize
     requires { at + 4 ≤ length bytes.now }
-    ensures { (result ≡ fourAt bytes.now at) × (result < 2 ^ 32) }
+    ensures { (result ≡ four_at bytes.now at) × (result < 2 ^ 32) }
 {
     let a = wide(bytes[at]);
     let b = wide(bytes[at + 1]);
@@ -53,7 +53,7 @@ pub fn four(bytes: &[u8], at: usize) -> usize
 // Writes a number's four bytes at a place.
 pub fn put_four(n: usize, at: usize, room: &mut [u8])
     requires { at + 4 ≤ length room.old }
-    ensures { room.new ≡ sets room.old at (fourBytes n) }
+    ensures { room.new ≡ sets room.old at (four_bytes n) }
 {
     room[at] = (n / 256 / 256 / 256 % 256) as u8;
     room[at + 1] = (n / 256 / 256 % 256) as u8;

@@ -1,6 +1,6 @@
 // The limits of a module's, a state's and a tick's numbers.
 ghost use Rattle.std.specs.Prelude.{◌≡◌};
-ghost use Rattle.common.specs.Limits.{between, legalPeriod};
+ghost use Rattle.common.specs.Limits.{between, legal_period};
 
 // How many channels arrays have room for. A file may have fewer.
 pub const WIDTH: usize = 8;
@@ -41,7 +41,7 @@ pub fn is_between(least: u32, greatest: u32, n: u32) -> bool
 
 // Whether a state or a tick may hold the period: 0, or within the limits.
 pub fn is_period(period: u32) -> bool
-    ensures { result ≡ legalPeriod period }
+    ensures { result ≡ legal_period period }
 {
     (period == 0) | is_between(LEAST_PERIOD, GREATEST_PERIOD, period)
 }

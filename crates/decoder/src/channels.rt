@@ -1,9 +1,9 @@
 // A record's channels: the command of each, beside its register, by its bit of the mask.
 ghost use Rattle.std.specs.Prelude.{◌≡◌, ◌+◌, ◌-◌, ◌<◌, ◌≤◌, true, false, length, take};
 ghost use Rattle.common.specs.Limits.{width};
-ghost use Rattle.records.specs.Legal.{legalBeside};
-ghost use Rattle.records.specs.Format.{held, periodAt, start_at, spelled, read_body, readChannel, readChannels, unusedBits};
-ghost use Rattle.decoder.specs.Answers.{noChannel, asChannel, asChannels};
+ghost use Rattle.records.specs.Legal.{legal_beside};
+ghost use Rattle.records.specs.Format.{held, period_at, start_at, spelled, read_body, read_channel, read_channels, unused_bits};
+ghost use Rattle.decoder.specs.Answers.{no_channel, as_channel, as_channels};
 
 use crate::{ChannelRead, ChannelsRead};
 use common::bytes::{byte, word};
@@ -13,7 +13,7 @@ use ticks::Command;
 
 // Whether a command is legal beside the sample that sounded before.
 fn legal_beside(last: u32, sounded: u32, c: Command) -> bool
-    ensures { result ≡ legalBeside last sounded c }
+    ensures { result ≡ legal_beside last sounded c }
 {
     (c.sample as u32 <= last)
         & (c.volume as u32 <= LOUDEST)
@@ -35,7 +35,7 @@ pub fn bytes_left(stream: &[u8], at: usize) -> usize
 
 // The period at a place, which shows by its second byte: 0 before that is in.
 fn period_at(stream: &[u8], at: usize) -> u16
-    ensures { result ≡ periodAt stream.now at }
+    ensures { result ≡ period_at stream.now at }
 {
     if bytes_left(stream, at) < 2 {
         return 0;
@@ -87,7 +87,7 @@ fn held(r: Command) -> Command
 
 // A reading that is bad, or that runs out.
 fn no_channel(r: Command, at: usize, short: bool) -> ChannelRead
-    ensures { result ≡ noChannel r at short }
+    ensures { result ≡ no_channel r at short }
 {
     ChannelRead {
         ok: false,
@@ -99,7 +99,7 @@ fn no_channel(r: Command, at: usize, short: bool) -> ChannelRead
 
 // The command of a set bit, beside its channel's register.
 fn read_body(last: u32, stream: &[u8], at: usize, r: Command) -> ChannelRead
-    ensures { result ≡ asChannel r at (read_body last stream.now at r) }
+    ensures { result ≡ as_channel r at (read_body last stream.now at r) }
 {
     let left = bytes_left(stream, at);
     if left == 0 {
@@ -123,7 +123,7 @@ fn read_body(last: u32, stream: &[u8], at: usize, r: Command) -> ChannelRead
 
 // The command of a channel whose bit is the lowest of m.
 fn read_channel(last: u32, stream: &[u8], at: usize, r: Command, m: u32) -> ChannelRead
-    ensures { result ≡ asChannel r at (readChannel last stream.now at r m) }
+    ensures { result ≡ as_channel r at (read_channel last stream.now at r m) }
 {
     if m % 2 == 0 {
         return ChannelRead {
@@ -146,7 +146,7 @@ pub fn read_channels(
     mask: u32,
 ) -> ChannelsRead
     requires { channels ≤ width }
-    ensures { result ≡ asChannels channels registers at (readChannels last stream.now at (take channels registers) mask) }
+    ensures { result ≡ as_channels channels registers at (read_channels last stream.now at (take channels registers) mask) }
 {
     let mut commands = registers;
     let mut p = at;
@@ -178,7 +178,7 @@ pub fn read_channels(
 
 // The bits of a mask past those of the channels.
 pub fn unused_bits(channels: usize, mask: u32) -> u32
-    ensures { result ≡ unusedBits channels mask }
+    ensures { result ≡ unused_bits channels mask }
 {
     let mut m = mask;
     let mut k = channels;

@@ -2,8 +2,8 @@
 // The module that it is for gives the last sample number and the number of channels.
 ghost use Rattle.std.specs.Prelude.{◌≡◌, ◌^◌, ◌≤◌, ◌<◌, length};
 ghost use Rattle.common.specs.Limits.{width};
-ghost use Rattle.records.specs.Format.{leastPlace, recordsPlace, knownVersion, keeps, shift, streamChannels, tickCount, firstRecord, atFirst, readRecord, decodeRecords, decode};
-ghost use Rattle.decoder.specs.Answers.{asRecord, answer_of, unread};
+ghost use Rattle.records.specs.Format.{least_place, records_place, known_version, keeps, shift, stream_channels, tick_count, first_record, at_first, read_record, decode_records, decode};
+ghost use Rattle.decoder.specs.Answers.{as_record, answer_of, unread};
 
 use common::bytes::{byte, four, wide};
 use common::limits::{GREATEST_TEMPO, LEAST_TEMPO, WIDTH, is_between};
@@ -69,7 +69,7 @@ pub fn read_record(
     registers: [Command; WIDTH],
 ) -> Record
     requires { channels ≤ width }
-    ensures { result ≡ asRecord registers at (readRecord last channels stream.now at registers) }
+    ensures { result ≡ as_record registers at (read_record last channels stream.now at registers) }
 {
     let mask = byte(stream, at);
     if channels::unused_bits(channels, mask) != 0 {
@@ -107,24 +107,24 @@ pub fn shift(version: u8) -> usize
 
 // The place of a stream's first record.
 pub fn first_record(stream: &[u8]) -> usize
-    requires { leastPlace ≤ length stream.now }
-    ensures { (result ≡ firstRecord stream.now) × (result ≤ recordsPlace) }
+    requires { least_place ≤ length stream.now }
+    ensures { (result ≡ first_record stream.now) × (result ≤ records_place) }
 {
     LEAST_PLACE + shift(stream[VERSION_PLACE])
 }
 
 // How many ticks a stream says that it has.
 pub fn count_of(stream: &[u8]) -> usize
-    requires { firstRecord stream.now ≤ length stream.now }
-    ensures { (result ≡ tickCount stream.now) × (result < 2 ^ 32) }
+    requires { first_record stream.now ≤ length stream.now }
+    ensures { (result ≡ tick_count stream.now) × (result < 2 ^ 32) }
 {
     four(stream, COUNT_PLACE + shift(stream[VERSION_PLACE]))
 }
 
 // How many channels a stream is for.
 pub fn channels_in(stream: &[u8]) -> usize
-    requires { leastPlace ≤ length stream.now }
-    ensures { result ≡ streamChannels stream.now }
+    requires { least_place ≤ length stream.now }
+    ensures { result ≡ stream_channels stream.now }
 {
     if stream[VERSION_PLACE] < COUNTED_VERSION {
         return OLD_CHANNELS;
@@ -134,14 +134,14 @@ pub fn channels_in(stream: &[u8]) -> usize
 
 // Whether a stream's ticks keep a remainder.
 pub fn keeps(stream: &[u8]) -> bool
-    requires { leastPlace ≤ length stream.now }
+    requires { least_place ≤ length stream.now }
     ensures { result ≡ keeps stream.now }
 {
     stream[VERSION_PLACE] != FIRST_VERSION
 }
 
 fn known_version(v: u8) -> bool
-    ensures { result ≡ knownVersion v }
+    ensures { result ≡ known_version v }
 {
     (FIRST_VERSION <= v) & (v <= VERSION)
 }
@@ -149,7 +149,7 @@ fn known_version(v: u8) -> bool
 // Refusal 23. It ends at the first bad record, and a good one has at least two bytes, whatever the count is.
 fn check_records(last: u32, channels: usize, stream: &[u8], count: usize, first: usize) -> Answer
     requires { channels ≤ width }
-    ensures { result ≡ answer_of (decodeRecords last channels stream.now count first atFirst) }
+    ensures { result ≡ answer_of (decode_records last channels stream.now count first at_first) }
 {
     let mut registers = records::at_first();
     let mut at = first;

@@ -12,13 +12,13 @@ abbrev pub y : Cell → ℕ
 y c = c.param % 16
 
 -- effect 3, and 5, which runs it from memory
-unfoldable pub isPortamento : Cell → Bool
-isPortamento c = eqb c.effect 0x03 || eqb c.effect 0x05
+unfoldable pub is_portamento : Cell → Bool
+is_portamento c = eqb c.effect 0x03 || eqb c.effect 0x05
 
 -- a period without these
-unfoldable pub isNote : Cell → Bool
-isNote c = not (eqb c.period 0) && not (eqb c.effect 0x03) && not (eqb c.effect 0x05)
+unfoldable pub is_note : Cell → Bool
+is_note c = not (eqb c.period 0) && not (eqb c.effect 0x03) && not (eqb c.effect 0x05)
 
 -- a period with one of these
-unfoldable pub isTarget : Cell → Bool
-isTarget c = not (eqb c.period 0) && isPortamento c
+unfoldable pub is_target : Cell → Bool
+is_target c = not (eqb c.period 0) && is_portamento c

@@ -2,9 +2,9 @@
 -- Assumes nothing.
 use Rattle.std.specs.Prelude.{ℕ, ◌%◌, min, Bool, cond, ◌&&◌, ◌||◌, eqb, ltb}
 use Rattle.reader.specs.declared.Cell.{Cell}
-use Rattle.motion.specs.Waves.{squareForm, remembered}
+use Rattle.motion.specs.Waves.{square_form, remembered}
 use Rattle.motion.specs.declared.Wave.{Wave}
-use Rattle.effects.specs.Notes.{x, y, isNote}
+use Rattle.effects.specs.Notes.{x, y, is_note}
 
 -- ---- when t is above 0
 -- 4 is vibrato, and 6 runs it from memory
@@ -17,19 +17,19 @@ trembles c t = ltb 0 t && eqb c.effect 0x07
 
 -- ---- at u = 0
 -- a start by a period sets the place to 0
-unfoldable pub rowPlace : Cell → ℕ → ℕ
-rowPlace c place = cond (isNote c) 0 place
+unfoldable pub row_place : Cell → ℕ → ℕ
+row_place c place = cond (is_note c) 0 place
 
 -- E4 or E7 chooses by y mod 4, 3 meaning square
-unfoldable pub rowForm : ℕ → Cell → ℕ → ℕ
-rowForm choosing c form = cond (eqb c.effect choosing) (min (y c % 4) squareForm) form
+unfoldable pub row_form : ℕ → Cell → ℕ → ℕ
+row_form choosing c form = cond (eqb c.effect choosing) (min (y c % 4) square_form) form
 
 -- the wave of an effect keeps its own x and its own y, 0 meaning the old one; another effect chooses its form
-unfoldable pub rowWave : ℕ → ℕ → Cell → Wave → Wave
-rowWave effect choosing c w =
+unfoldable pub row_wave : ℕ → ℕ → Cell → Wave → Wave
+row_wave effect choosing c w =
     record {
       x = remembered (eqb c.effect effect) (x c) w.x;
       y = remembered (eqb c.effect effect) (y c) w.y;
-      place = rowPlace c w.place;
-      form = rowForm choosing c w.form;
+      place = row_place c w.place;
+      form = row_form choosing c w.form;
     }

@@ -1,6 +1,6 @@
 // Whether a channel's numbers are legal, and whether they are as fresh.
 ghost use Rattle.std.specs.Prelude.{◌≡◌};
-ghost use Rattle.effects.specs.Legal.{isFresh, legalChannel};
+ghost use Rattle.effects.specs.Legal.{is_fresh, legal_channel};
 
 use crate::Channel;
 use common::limits::{LAST_BYTE, LOUDEST, is_period};
@@ -8,7 +8,7 @@ use motion::legal::{is_fresh_wave, legal_wave};
 use tuning::LAST_FINETUNE;
 
 pub fn is_fresh(channel: Channel) -> bool
-    ensures { result ≡ isFresh channel }
+    ensures { result ≡ is_fresh channel }
 {
     let vibrato = is_fresh_wave(channel.vibrato);
     let tremolo = is_fresh_wave(channel.tremolo);
@@ -23,7 +23,7 @@ pub fn is_fresh(channel: Channel) -> bool
 }
 
 pub fn legal_channel(last: u32, channel: Channel) -> bool
-    ensures { result ≡ legalChannel last channel }
+    ensures { result ≡ legal_channel last channel }
 {
     let period = is_period(channel.period as u32);
     let target = is_period(channel.target as u32);

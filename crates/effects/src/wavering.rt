@@ -1,8 +1,8 @@
 // Which cells waver, and what a cell does to a channel's waves. Effects are written in hexadecimal; x and y are the parameter's two digits.
 ghost use Rattle.std.specs.Prelude.{◌≡◌, ◌<◌};
 ghost use Rattle.motion.specs.Waves.{remembered};
-ghost use Rattle.effects.specs.Wavering.{vibrates, trembles, rowForm, rowPlace, rowWave};
-ghost use Rattle.effects.specs.Untouched.{touchesWaves};
+ghost use Rattle.effects.specs.Wavering.{vibrates, trembles, row_form, row_place, row_wave};
+ghost use Rattle.effects.specs.Untouched.{touches_waves};
 
 use crate::notes::is_note;
 use motion::Wave;
@@ -24,7 +24,7 @@ pub fn trembles(cell: Cell, t: u32) -> bool
 
 // Whether a cell does something to a channel's waves in its row.
 pub fn touches_waves(cell: Cell) -> bool
-    ensures { result ≡ touchesWaves cell }
+    ensures { result ≡ touches_waves cell }
 {
     let note = is_note(cell);
     note | (cell.effect == 0x04)
@@ -41,13 +41,13 @@ fn row_digit(given: bool, digit: u32, old: u8) -> u8
 }
 
 fn row_place(cell: Cell, place: u8) -> u8
-    ensures { result ≡ rowPlace cell place }
+    ensures { result ≡ row_place cell place }
 {
     if is_note(cell) { 0 } else { place }
 }
 
 fn row_form(choosing: u32, cell: Cell, form: u8) -> u8
-    ensures { result ≡ rowForm choosing cell form }
+    ensures { result ≡ row_form choosing cell form }
 {
     let chosen = cell.param % 16 % 4;
     if cell.effect == choosing {
@@ -64,7 +64,7 @@ fn row_form(choosing: u32, cell: Cell, form: u8) -> u8
 // The wave of an effect after the row's work, with the effect that chooses its form.
 pub fn row_wave(effect: u32, choosing: u32, cell: Cell, wave: Wave) -> Wave
     requires param { cell.param < 256 }
-    ensures { result ≡ rowWave effect choosing cell wave }
+    ensures { result ≡ row_wave effect choosing cell wave }
 {
     let given = cell.effect == effect;
     Wave {

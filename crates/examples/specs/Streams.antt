@@ -4,28 +4,28 @@
 use Rattle.std.specs.Prelude.{ℕ, ◌-◌, ◌*◌, ◌≡◌, refl, List, [], ◌∷◌, ◌++◌, replicate}
 use Rattle.laws.specs.Ranges.{each, partly, some, total, largest}
 use Rattle.common.specs.Answers.{refusing}
-use Rattle.common.specs.Bytes.{fourAt, fourBytes}
-use Rattle.reader.specs.File.{Module, module_of, channelsOf, patternsOf, samplePlace}
-use Rattle.reader.specs.Judge.{cellLines, rest_lines, verdict, tagged, badLength, badEntry, badVolume, badLoop, badNumberAt, badPeriodAt, badAt}
-use Rattle.reader.specs.Cells.{cellFrom, cell_at}
-use Rattle.effects.specs.Notes.{isNote}
-use Rattle.effects.specs.Starts.{noteStart, effectStart, rowStart, startFor}
+use Rattle.common.specs.Bytes.{four_at, four_bytes}
+use Rattle.reader.specs.File.{Module, module_of, channels_of, patterns_of, sample_place}
+use Rattle.reader.specs.Judge.{cell_lines, rest_lines, verdict, tagged, bad_length, bad_entry, bad_volume, bad_loop, bad_number_at, bad_period_at, bad_at}
+use Rattle.reader.specs.Cells.{cell_from, cell_at}
+use Rattle.effects.specs.Notes.{is_note}
+use Rattle.effects.specs.Starts.{note_start, effect_start, row_start, start_for}
 use Rattle.tuning.specs.Tuned.{tuned}
-use Rattle.effects.specs.Work.{latchedBy, givenFinetune, rowFinetune, givenVolume, rowVolume, givenPeriod, rowPeriod, rowChannel, worked}
+use Rattle.effects.specs.Work.{latched_by, given_finetune, row_finetune, given_volume, row_volume, given_period, row_period, row_channel, worked}
 use Rattle.effects.specs.Wavering.{vibrates, trembles}
-use Rattle.effects.specs.Sounded.{arpeggio, transposed, arpeggiated, soundedPeriod, soundedVolume}
-use Rattle.effects.specs.Commands.{commandOf, voicedBy, voiced}
-use Rattle.sequencer.specs.Row.{rowTempo, rowTime, rowFlow, flowFrom, flowThrough}
-use Rattle.sequencer.specs.Songs.{freshSong, songBy, songWork, voicedOn, allVoiced, tickWith, tickOf}
-use Rattle.sequencer.specs.Runs.{ticksFrom}
-use Rattle.records.specs.Format.{atFirst, changed, mask, commandBytes, channelBytes, channelsBytes, recordBytes, records, shift, countByte, streamHeader, encodeAfter}
-use Rattle.records.specs.Examples.{emptyCounted, noteCounted}
-use Rattle.translator.specs.Translate.{streamOf}
+use Rattle.effects.specs.Sounded.{arpeggio, transposed, arpeggiated, sounded_period, sounded_volume}
+use Rattle.effects.specs.Commands.{command_of, voiced_by, voiced}
+use Rattle.sequencer.specs.Row.{row_tempo, row_time, row_flow, flow_from, flow_through}
+use Rattle.sequencer.specs.Songs.{fresh_song, song_by, song_work, voiced_on, all_voiced, tick_with, tick_of}
+use Rattle.sequencer.specs.Runs.{ticks_from}
+use Rattle.records.specs.Format.{at_first, changed, mask, command_bytes, channel_bytes, channels_bytes, record_bytes, records, shift, count_byte, stream_header, encode_after}
+use Rattle.records.specs.Examples.{empty_counted, note_counted}
+use Rattle.translator.specs.Translate.{stream_of}
 
 -- ---- the modules
 -- sample 1 has one word at volume 64; song length 1, one pattern of a tag's channels, which is empty but for the cell of row 0 on channel 1
-unfoldable pub withCell : List ℕ → ℕ → List ℕ → Module
-withCell tag channels cell =
+unfoldable pub with_cell : List ℕ → ℕ → List ℕ → Module
+with_cell tag channels cell =
     module_of
     (replicate 42 0
     ++ (0 ∷ 1 ∷ 0 ∷ 64 ∷ 0 ∷ 0 ∷ 0 ∷ 1 ∷ (replicate 900 0
@@ -43,51 +43,51 @@ CHN digit = digit ∷ 0x43 ∷ 0x48 ∷ 0x4E ∷ []
 
 -- an empty first row
 abbrev pub empty : List ℕ → ℕ → Module
-empty tag channels = withCell tag channels (0x00 ∷ 0x00 ∷ 0x00 ∷ 0x00 ∷ [])
+empty tag channels = with_cell tag channels (0x00 ∷ 0x00 ∷ 0x00 ∷ 0x00 ∷ [])
 
 -- sample 1 with period 428 on channel 1
 abbrev pub noted : List ℕ → ℕ → Module
-noted tag channels = withCell tag channels (0x01 ∷ 0xAC ∷ 0x10 ∷ 0x00 ∷ [])
+noted tag channels = with_cell tag channels (0x01 ∷ 0xAC ∷ 0x10 ∷ 0x00 ∷ [])
 
 -- ---- their streams
 abbrev Accepted : List ℕ → ℕ → Type 0
 Accepted tag channels = ((verdict (empty tag channels)).number ≡ 0) × ((verdict (noted tag channels)).number ≡ 0)
 
 abbrev Streams : List ℕ → ℕ → Type 0
-Streams tag channels = (streamOf (empty tag channels) 1 ≡ emptyCounted channels) × (streamOf (noted tag channels) 1 ≡ noteCounted channels)
+Streams tag channels = (stream_of (empty tag channels) 1 ≡ empty_counted channels) × (stream_of (noted tag channels) 1 ≡ note_counted channels)
 
-mk-accepted : Accepted MK 4
-unfolding withCell channelsOf fourAt verdict rest_lines cellLines refusing some total largest patternsOf samplePlace tagged badLength badEntry badVolume badLoop badNumberAt badPeriodAt badAt
-mk-accepted = (refl, refl)
+mk_accepted : Accepted MK 4
+unfolding with_cell channels_of four_at verdict rest_lines cell_lines refusing some total largest patterns_of sample_place tagged bad_length bad_entry bad_volume bad_loop bad_number_at bad_period_at bad_at
+mk_accepted = (refl, refl)
 
-mk-streams : Streams MK 4
-unfolding withCell channelsOf fourAt each partly cellFrom cell_at isNote noteStart effectStart rowStart startFor latchedBy tuned givenFinetune rowFinetune givenVolume rowVolume givenPeriod rowPeriod rowChannel worked vibrates trembles arpeggio transposed arpeggiated soundedPeriod soundedVolume commandOf voicedBy voiced
-    rowTempo rowTime rowFlow flowFrom flowThrough freshSong songBy songWork voicedOn allVoiced tickWith tickOf ticksFrom
-    fourBytes atFirst changed mask commandBytes channelBytes channelsBytes recordBytes records shift countByte streamHeader encodeAfter
-mk-streams = (refl, refl)
+mk_streams : Streams MK 4
+unfolding with_cell channels_of four_at each partly cell_from cell_at is_note note_start effect_start row_start start_for latched_by tuned given_finetune row_finetune given_volume row_volume given_period row_period row_channel worked vibrates trembles arpeggio transposed arpeggiated sounded_period sounded_volume command_of voiced_by voiced
+    row_tempo row_time row_flow flow_from flow_through fresh_song song_by song_work voiced_on all_voiced tick_with tick_of ticks_from
+    four_bytes at_first changed mask command_bytes channel_bytes channels_bytes record_bytes records shift count_byte stream_header encode_after
+mk_streams = (refl, refl)
 
-six-accepted : Accepted (CHN 0x36) 6
-unfolding withCell channelsOf fourAt verdict rest_lines cellLines refusing some total largest patternsOf samplePlace tagged badLength badEntry badVolume badLoop badNumberAt badPeriodAt badAt
-six-accepted = (refl, refl)
+six_accepted : Accepted (CHN 0x36) 6
+unfolding with_cell channels_of four_at verdict rest_lines cell_lines refusing some total largest patterns_of sample_place tagged bad_length bad_entry bad_volume bad_loop bad_number_at bad_period_at bad_at
+six_accepted = (refl, refl)
 
-six-streams : Streams (CHN 0x36) 6
-unfolding withCell channelsOf fourAt each partly cellFrom cell_at isNote noteStart effectStart rowStart startFor latchedBy tuned givenFinetune rowFinetune givenVolume rowVolume givenPeriod rowPeriod rowChannel worked vibrates trembles arpeggio transposed arpeggiated soundedPeriod soundedVolume commandOf voicedBy voiced
-    rowTempo rowTime rowFlow flowFrom flowThrough freshSong songBy songWork voicedOn allVoiced tickWith tickOf ticksFrom
-    fourBytes atFirst changed mask commandBytes channelBytes channelsBytes recordBytes records shift countByte streamHeader encodeAfter
-six-streams = (refl, refl)
+six_streams : Streams (CHN 0x36) 6
+unfolding with_cell channels_of four_at each partly cell_from cell_at is_note note_start effect_start row_start start_for latched_by tuned given_finetune row_finetune given_volume row_volume given_period row_period row_channel worked vibrates trembles arpeggio transposed arpeggiated sounded_period sounded_volume command_of voiced_by voiced
+    row_tempo row_time row_flow flow_from flow_through fresh_song song_by song_work voiced_on all_voiced tick_with tick_of ticks_from
+    four_bytes at_first changed mask command_bytes channel_bytes channels_bytes record_bytes records shift count_byte stream_header encode_after
+six_streams = (refl, refl)
 
-eight-accepted : Accepted (CHN 0x38) 8
-unfolding withCell channelsOf fourAt verdict rest_lines cellLines refusing some total largest patternsOf samplePlace tagged badLength badEntry badVolume badLoop badNumberAt badPeriodAt badAt
-eight-accepted = (refl, refl)
+eight_accepted : Accepted (CHN 0x38) 8
+unfolding with_cell channels_of four_at verdict rest_lines cell_lines refusing some total largest patterns_of sample_place tagged bad_length bad_entry bad_volume bad_loop bad_number_at bad_period_at bad_at
+eight_accepted = (refl, refl)
 
-eight-streams : Streams (CHN 0x38) 8
-unfolding withCell channelsOf fourAt each partly cellFrom cell_at isNote noteStart effectStart rowStart startFor latchedBy tuned givenFinetune rowFinetune givenVolume rowVolume givenPeriod rowPeriod rowChannel worked vibrates trembles arpeggio transposed arpeggiated soundedPeriod soundedVolume commandOf voicedBy voiced
-    rowTempo rowTime rowFlow flowFrom flowThrough freshSong songBy songWork voicedOn allVoiced tickWith tickOf ticksFrom
-    fourBytes atFirst changed mask commandBytes channelBytes channelsBytes recordBytes records shift countByte streamHeader encodeAfter
-eight-streams = (refl, refl)
+eight_streams : Streams (CHN 0x38) 8
+unfolding with_cell channels_of four_at each partly cell_from cell_at is_note note_start effect_start row_start start_for latched_by tuned given_finetune row_finetune given_volume row_volume given_period row_period row_channel worked vibrates trembles arpeggio transposed arpeggiated sounded_period sounded_volume command_of voiced_by voiced
+    row_tempo row_time row_flow flow_from flow_through fresh_song song_by song_work voiced_on all_voiced tick_with tick_of ticks_from
+    four_bytes at_first changed mask command_bytes channel_bytes channels_bytes record_bytes records shift count_byte stream_header encode_after
+eight_streams = (refl, refl)
 
-pub modules-accepted : Accepted MK 4 × Accepted (CHN 0x36) 6 × Accepted (CHN 0x38) 8
-modules-accepted = (mk-accepted, six-accepted, eight-accepted)
+pub modules_accepted : Accepted MK 4 × Accepted (CHN 0x36) 6 × Accepted (CHN 0x38) 8
+modules_accepted = (mk_accepted, six_accepted, eight_accepted)
 
-pub one-tick : Streams MK 4 × Streams (CHN 0x36) 6 × Streams (CHN 0x38) 8
-one-tick = (mk-streams, six-streams, eight-streams)
+pub one_tick : Streams MK 4 × Streams (CHN 0x36) 6 × Streams (CHN 0x38) 8
+one_tick = (mk_streams, six_streams, eight_streams)

@@ -8,34 +8,34 @@ use Rattle.common.specs.Answers.{refused, Outcome, outcome, Line, line, refusing
 use Rattle.common.specs.declared.Answer.{Answer}
 use Rattle.ticks.specs.declared.Command.{Command}
 use Rattle.ticks.specs.declared.Tick.{Tick}
-use Rattle.ticks.specs.Play.{Mechanism, afterFit, playOut}
-use Rattle.reader.specs.File.{Module, module_of, sampleCount, channelCount}
-use Rattle.reader.specs.Judge.{moduleLine}
-use Rattle.reader.specs.Samples.{Sample, extentsOf}
+use Rattle.ticks.specs.Play.{Mechanism, after_fit, play_out}
+use Rattle.reader.specs.File.{Module, module_of, sample_count, channel_count}
+use Rattle.reader.specs.Judge.{module_line}
+use Rattle.reader.specs.Samples.{Sample, extents_of}
 use Rattle.voice.specs.declared.Voice.{Voice}
-use Rattle.voice.specs.Voice.{samplesOf}
+use Rattle.voice.specs.Voice.{samples_of}
 use Rattle.voice.specs.Frames.{blank}
-use Rattle.voice.specs.Legal.{legalVoices}
+use Rattle.voice.specs.Legal.{legal_voices}
 use Rattle.machine.specs.declared.Machine.{Machine}
-use Rattle.machine.specs.Machine.{freshMachine, frames, after}
-use Rattle.records.specs.Format.{firstVersion}
+use Rattle.machine.specs.Machine.{fresh_machine, frames, after}
+use Rattle.records.specs.Format.{first_version}
 use Rattle.arrival.specs.declared.Arrival.{Arrival}
-use Rattle.arrival.specs.Arrive.{taken, at_start, closed, legalArrival}
+use Rattle.arrival.specs.Arrive.{taken, at_start, closed, legal_arrival}
 use Rattle.arrival.specs.Feed.{Fed, fed, feeding}
 use Rattle.feed.specs.declared.Board.{Board}
 use Rattle.feed.specs.declared.Reply.{Reply}
 
 -- ---- the machine
 -- a voice holds the numbers of a tick as its register
-unfoldable pub registerOf : Voice → Command
-registerOf v = record { sample = v.sample; volume = v.volume; period = v.period; start = false; offset = 0 }
+unfoldable pub register_of : Voice → Command
+register_of v = record { sample = v.sample; volume = v.volume; period = v.period; start = false; offset = 0 }
 
-unfoldable pub registersOf : Machine → List Command
-registersOf w = each (λ i. registerOf (get_or w.voices i blank)) width
+unfoldable pub registers_of : Machine → List Command
+registers_of w = each (λ i. register_of (get_or w.voices i blank)) width
 
 -- whether a version's ticks keep a remainder: version 1 streams play by the old rule
-unfoldable pub keptUnder : ℕ → Bool
-keptUnder version = not (eqb version firstVersion)
+unfoldable pub kept_under : ℕ → Bool
+kept_under version = not (eqb version first_version)
 
 -- by the old rule a tick begins with no remainder
 unfoldable pub begun : Bool → Machine → Machine
@@ -46,34 +46,34 @@ unfoldable pub left : Bool → Machine → Machine → Machine
 left keeps w x = cond keeps x (record { voices = x.voices; tempo = w.tempo; remainder = w.remainder })
 
 -- how the board plays ticks under a version
-unfoldable pub framesUnder : ℕ → (ℕ → Sample) → ℕ → Machine → Tick → List ℤ
-framesUnder channels samples version w t = frames channels samples (begun (keptUnder version) w) t
+unfoldable pub frames_under : ℕ → (ℕ → Sample) → ℕ → Machine → Tick → List ℤ
+frames_under channels samples version w t = frames channels samples (begun (kept_under version) w) t
 
-unfoldable pub afterUnder : ℕ → (ℕ → Sample) → ℕ → Machine → Tick → Machine
-afterUnder channels samples version w t = left (keptUnder version) w (after (keptUnder version) channels samples (begun (keptUnder version) w) t)
+unfoldable pub after_under : ℕ → (ℕ → Sample) → ℕ → Machine → Tick → Machine
+after_under channels samples version w t = left (kept_under version) w (after (kept_under version) channels samples (begun (kept_under version) w) t)
 
 abbrev pub under : ℕ → (ℕ → Sample) → ℕ → Mechanism ℤ Machine Tick
-under channels samples version = record { frames = framesUnder channels samples version; after = afterUnder channels samples version }
+under channels samples version = record { frames = frames_under channels samples version; after = after_under channels samples version }
 
 -- how it takes bytes, for samples to the last and so many channels
 abbrev pub takes : ℕ → ℕ → (ℕ → Sample) → Mechanism ℤ (Fed Machine) ℕ
-takes last channels samples = feeding last channels registersOf (under channels samples)
+takes last channels samples = feeding last channels registers_of (under channels samples)
 
 -- ---- the board
 -- where the board begins: stopped voices, no tick before and no remainder, and nothing is taken
-unfoldable pub freshBoard : Board
-freshBoard = record { arrival = at_start; machine = record { voices = freshMachine.voices; tempo = 0; remainder = 0 } }
+unfoldable pub fresh_board : Board
+fresh_board = record { arrival = at_start; machine = record { voices = fresh_machine.voices; tempo = 0; remainder = 0 } }
 
 -- a remainder from 0 up to the last tick's tempo minus 1
-unfoldable pub legalRemainder : Machine → Bool
-legalRemainder w = eqb w.remainder 0 || ltb w.remainder w.tempo
+unfoldable pub legal_remainder : Machine → Bool
+legal_remainder w = eqb w.remainder 0 || ltb w.remainder w.tempo
 
-unfoldable pub legalBoard : Module → Board → Bool
-legalBoard m b =
+unfoldable pub legal_board : Module → Board → Bool
+legal_board m b =
     all
-    (legalVoices m.layout (extentsOf m) b.machine.voices
-    ∷ legalRemainder b.machine
-    ∷ legalArrival (sampleCount m) (channelCount m) (registersOf b.machine) b.arrival
+    (legal_voices m.layout (extents_of m) b.machine.voices
+    ∷ legal_remainder b.machine
+    ∷ legal_arrival (sample_count m) (channel_count m) (registers_of b.machine) b.arrival
     ∷ [])
 
 -- ---- a call
@@ -81,35 +81,35 @@ legalBoard m b =
 abbrev pub reply : Answer → ℕ → Arrival → Machine → Reply
 reply answer taken arrival machine = record { answer = answer; taken = taken; board = record { arrival = arrival; machine = machine } }
 
-abbrev pub refusedBoard : Board → ℕ → ℕ → Reply
-refusedBoard b number place = record { answer = refused number place; taken = 0; board = b }
+abbrev pub refused_board : Board → ℕ → ℕ → Reply
+refused_board b number place = record { answer = refused number place; taken = 0; board = b }
 
 -- the place of the fault that is kept, or 0
-unfoldable pub faultPlace : Arrival → ℕ
-faultPlace p = cond (eqb p.number 0) 0 p.fault
+unfoldable pub fault_place : Arrival → ℕ
+fault_place p = cond (eqb p.number 0) 0 p.fault
 
 -- the fault that is kept or 0, with its place; how many ticks were played and how many bytes were taken since p
-unfoldable pub replySince : Arrival → Fed Machine → Reply
-replySince p w =
-    reply (record { number = w.arrival.number; place = faultPlace w.arrival; count = w.arrival.records - p.records }) (taken w.arrival - taken p) w.arrival w.machine
+unfoldable pub reply_since : Arrival → Fed Machine → Reply
+reply_since p w =
+    reply (record { number = w.arrival.number; place = fault_place w.arrival; count = w.arrival.records - p.records }) (taken w.arrival - taken p) w.arrival w.machine
 
 -- bytes are taken until none is left, one shows a fault or one mustn't be taken
-unfoldable pub feedOf : ℕ → ℕ → (ℕ → Sample) → Arrival → Machine → List ℕ → List ℤ → Outcome Reply ℤ
-feedOf last channels samples p w bytes out =
-    outcome (replySince p (afterFit (takes last channels samples) (length out) (fed p w) bytes)) (playOut (takes last channels samples) (fed p w) bytes out)
+unfoldable pub feed_of : ℕ → ℕ → (ℕ → Sample) → Arrival → Machine → List ℕ → List ℤ → Outcome Reply ℤ
+feed_of last channels samples p w bytes out =
+    outcome (reply_since p (after_fit (takes last channels samples) (length out) (fed p w) bytes)) (play_out (takes last channels samples) (fed p w) bytes out)
 
 -- 1 to 9 come first, then 14
-abbrev pub boardLines : Module → Board → List Line
-boardLines m b = moduleLine m ∷ line 14 (not (legalBoard m b)) 0 ∷ []
+abbrev pub board_lines : Module → Board → List Line
+board_lines m b = module_line m ∷ line 14 (not (legal_board m b)) 0 ∷ []
 
 -- the call that takes bytes
-unfoldable pub boardFeedOf : List ℕ → Board → List ℕ → List ℤ → Outcome Reply ℤ
-boardFeedOf file b bytes out =
-    refusing (λ number place. outcome (refusedBoard b number place) out)
-    (feedOf (sampleCount (module_of file)) (channelCount (module_of file)) (samplesOf (module_of file)) b.arrival b.machine bytes out)
-    (boardLines (module_of file) b)
+unfoldable pub board_feed_of : List ℕ → Board → List ℕ → List ℤ → Outcome Reply ℤ
+board_feed_of file b bytes out =
+    refusing (λ number place. outcome (refused_board b number place) out)
+    (feed_of (sample_count (module_of file)) (channel_count (module_of file)) (samples_of (module_of file)) b.arrival b.machine bytes out)
+    (board_lines (module_of file) b)
 
 -- the call that closes: no byte is taken, and no tick played
-unfoldable pub boardCloseOf : List ℕ → Board → Reply
-boardCloseOf file b =
-    refusing (refusedBoard b) (replySince b.arrival (fed (closed b.arrival) b.machine)) (boardLines (module_of file) b)
+unfoldable pub board_close_of : List ℕ → Board → Reply
+board_close_of file b =
+    refusing (refused_board b) (reply_since b.arrival (fed (closed b.arrival) b.machine)) (board_lines (module_of file) b)

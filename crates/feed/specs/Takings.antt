@@ -6,23 +6,23 @@ use Rattle.ticks.specs.Play.{Mechanism}
 use Rattle.reader.specs.Samples.{Sample}
 use Rattle.machine.specs.declared.Machine.{Machine}
 use Rattle.machine.specs.Turn.{turn, turn_of}
-use Rattle.records.specs.Format.{read, readRecord}
+use Rattle.records.specs.Format.{read, read_record}
 use Rattle.arrival.specs.declared.Arrival.{Arrival}
-use Rattle.arrival.specs.Arrive.{keptBytes}
+use Rattle.arrival.specs.Arrive.{kept_bytes}
 use Rattle.arrival.specs.Ahead.{awaits, Plays}
-use Rattle.feed.specs.Feed.{registersOf, under}
+use Rattle.feed.specs.Feed.{registers_of, under}
 use Rattle.feed.specs.Several.{several}
 
 -- run is a whole record that is awaited, and t its tick
 pub record Whole (last c : ℕ) (p : Arrival) (w : Machine) (run : List ℕ) (t : Tick) : Type 0 where
   pub awaited : awaits p ≡ true
-  pub short : length run ≤ keptBytes
+  pub short : length run ≤ kept_bytes
   pub few : p.place + length run < 2 ^ 40
   pub stream : List ℕ
   pub from : ℕ
   pub to : ℕ
-  pub is : readRecord last c stream from (registersOf w) ≡ read t to
-  pub plays : (samples : ℕ → Sample) → Plays last c registersOf (under c samples) p.version p w run t
+  pub is : read_record last c stream from (registers_of w) ≡ read t to
+  pub plays : (samples : ℕ → Sample) → Plays last c registers_of (under c samples) p.version p w run t
 
 module _ {A W : Type 0} (m : Mechanism A W ℕ) (w : W) where
   -- the run is taken, or nothing is

@@ -1,16 +1,16 @@
 // The board that takes its stream as it arrives. Module and board are judged before a byte is taken.
 ghost use Rattle.std.specs.Prelude.{◌≡◌, true, ◌&&◌, ◌+◌, ◌-◌, ◌^◌, ◌≤◌, ◌<◌, length, eqb};
-ghost use Rattle.common.specs.Limits.{width, greatestTempo};
+ghost use Rattle.common.specs.Limits.{width, greatest_tempo};
 ghost use Rattle.common.specs.Answers.{outcome};
 ghost use Rattle.reader.specs.File.{lent};
 ghost use Rattle.reader.specs.Layouts.{LegalLayout};
 ghost use Rattle.reader.specs.Judge.{verdict};
-ghost use Rattle.voice.specs.Modules.{samplesIn};
+ghost use Rattle.voice.specs.Modules.{samples_in};
 ghost use Rattle.voice.specs.LegalFacts.{Ready};
 ghost use Rattle.machine.specs.Turn.{turn, turned, turn_of};
-ghost use Rattle.arrival.specs.Arrive.{keptBytes, taken};
+ghost use Rattle.arrival.specs.Arrive.{kept_bytes, taken};
 ghost use Rattle.arrival.specs.Feed.{fed};
-ghost use Rattle.feed.specs.Feed.{registerOf, registersOf, keptUnder, left, under, takes, freshBoard, legalRemainder, legalBoard, refusedBoard, faultPlace, replySince, feedOf, boardFeedOf, boardCloseOf};
+ghost use Rattle.feed.specs.Feed.{register_of, registers_of, kept_under, left, under, takes, fresh_board, legal_remainder, legal_board, refused_board, fault_place, reply_since, feed_of, board_feed_of, board_close_of};
 ghost use Rattle.feed.specs.Sound.{Sound};
 ghost use Rattle.feed.specs.Judged.{Begun, Tested, Judged};
 ghost use Rattle.feed.specs.Takings.{Whole, Tried, Taken};
@@ -57,7 +57,7 @@ struct Chunk {
 // ---- the machine
 
 fn register(v: Voice) -> Command
-    ensures { result ≡ registerOf v }
+    ensures { result ≡ register_of v }
 {
     Command {
         sample: v.sample,
@@ -70,7 +70,7 @@ fn register(v: Voice) -> Command
 
 // The voices' numbers as the registers.
 fn registers(machine: Machine) -> [Command; WIDTH]
-    ensures { result ≡ registersOf machine }
+    ensures { result ≡ registers_of machine }
 {
     let voices = machine.voices;
     let mut rs = records::at_first();
@@ -82,7 +82,7 @@ fn registers(machine: Machine) -> [Command; WIDTH]
 
 // Whether a version's ticks keep a remainder.
 fn kept_under(version: u32) -> bool
-    ensures { result ≡ keptUnder version }
+    ensures { result ≡ kept_under version }
 {
     version != records::FIRST_VERSION as u32
 }
@@ -96,7 +96,7 @@ fn goes_on(keeps: bool, before: u32, tempo: u32) -> bool
 // The machine as a tick of this tempo finds it: without a remainder that it does not begin with.
 fn begun(keeps: bool, machine: Machine, tempo: u32) -> Machine
     requires rest { (machine.remainder ≡ 0 → ⊥) → machine.remainder < machine.tempo }
-    requires tempo { tempo ≤ greatestTempo }
+    requires tempo { tempo ≤ greatest_tempo }
     ensures { Begun keeps machine tempo result }
 {
     if goes_on(keeps, machine.tempo, tempo) {
@@ -136,9 +136,9 @@ fn play_under(
 ) -> Turn
     requires layout { LegalLayout layout }
     requires ready { Ready (lent layout file.now) extents machine.voices tick.commands }
-    requires tempo { (0 < tick.tempo) × (tick.tempo ≤ greatestTempo) }
+    requires tempo { (0 < tick.tempo) × (tick.tempo ≤ greatest_tempo) }
     requires rest { (machine.remainder ≡ 0 → ⊥) → machine.remainder < machine.tempo }
-    ensures turned { turned result out.new ≡ turn_of (under layout.channels (samplesIn (lent layout file.now) extents) version) machine tick out.old }
+    ensures turned { turned result out.new ≡ turn_of (under layout.channels (samples_in (lent layout file.now) extents) version) machine tick out.old }
     ensures within { result.size ≤ length out.old }
 {
     let keeps = kept_under(version);
@@ -172,7 +172,7 @@ fn take_byte(
     out: &mut [i16],
 ) -> Moved
     requires { Sound layout file.now extents arrival machine }
-    ensures turned { turn result.full result.size (fed result.arrival result.machine) out.new ≡ turn_of (takes layout.samples layout.channels (samplesIn (lent layout file.now) extents)) (fed arrival machine) b out.old }
+    ensures turned { turn result.full result.size (fed result.arrival result.machine) out.new ≡ turn_of (takes layout.samples layout.channels (samples_in (lent layout file.now) extents)) (fed arrival machine) b out.old }
     ensures within { result.size ≤ length out.old }
 {
     let rs = registers(machine);
@@ -220,7 +220,7 @@ fn take_record(
 ) -> Moved
     requires sound { Sound layout file.now extents p w }
     requires whole { Whole layout.samples layout.channels p w run.now tick }
-    ensures { Tried (takes layout.samples layout.channels (samplesIn (lent layout file.now) extents)) (fed p w) run.now out.old result.full result.size (fed result.arrival result.machine) out.new }
+    ensures { Tried (takes layout.samples layout.channels (samples_in (lent layout file.now) extents)) (fed p w) run.now out.old result.full result.size (fed result.arrival result.machine) out.new }
 {
     let turn = play_under(layout, file, extents, w, tick, p.version, out);
     if turn.full {
@@ -253,7 +253,7 @@ fn take_one(
 ) -> Chunk
     requires sound { Sound layout file.now extents arrival machine }
     requires inside { i < length bytes.now }
-    ensures { Taken (takes layout.samples layout.channels (samplesIn (lent layout file.now) extents)) (fed arrival machine) bytes.now i out.old result.moved.full result.next result.moved.size (fed result.moved.arrival result.moved.machine) out.new }
+    ensures { Taken (takes layout.samples layout.channels (samples_in (lent layout file.now) extents)) (fed arrival machine) bytes.now i out.old result.moved.full result.next result.moved.size (fed result.moved.arrival result.moved.machine) out.new }
 {
     let moved = take_byte(layout, file, extents, arrival, machine, bytes[i], out);
     Chunk { next: i + 1, moved }
@@ -272,7 +272,7 @@ fn take_chunk(
 ) -> Chunk
     requires sound { Sound layout file.now extents arrival machine }
     requires inside { i < length bytes.now }
-    ensures { Taken (takes layout.samples layout.channels (samplesIn (lent layout file.now) extents)) (fed arrival machine) bytes.now i out.old result.moved.full result.next result.moved.size (fed result.moved.arrival result.moved.machine) out.new }
+    ensures { Taken (takes layout.samples layout.channels (samples_in (lent layout file.now) extents)) (fed arrival machine) bytes.now i out.old result.moved.full result.next result.moved.size (fed result.moved.arrival result.moved.machine) out.new }
 {
     let rs = registers(machine);
     let r = arrival::ahead(
@@ -316,7 +316,7 @@ fn less(a: usize, b: usize) -> usize
 }
 
 fn fault_place(p: Arrival) -> usize
-    ensures { result ≡ faultPlace p }
+    ensures { result ≡ fault_place p }
 {
     if p.number == 0 {
         return 0;
@@ -327,7 +327,7 @@ fn fault_place(p: Arrival) -> usize
 // What a call tells since an arrival: the fault that is kept or 0, how many ticks were played and how many bytes were taken.
 fn reply_since(before: Arrival, arrival: Arrival, machine: Machine) -> Reply
     requires { (taken before < 2 ^ 64) × (taken arrival < 2 ^ 64) }
-    ensures { result ≡ replySince before (fed arrival machine) }
+    ensures { result ≡ reply_since before (fed arrival machine) }
 {
     let count = less(arrival.records as usize, before.records as usize);
     let taken = less(
@@ -360,7 +360,7 @@ fn feed_bytes(
 ) -> Reply
     requires sound { Sound layout file.now extents arrival machine }
     requires few { taken arrival < 2 ^ 41 }
-    ensures { outcome result out.new ≡ feedOf layout.samples layout.channels (samplesIn (lent layout file.now) extents) arrival machine bytes.now out.old }
+    ensures { outcome result out.new ≡ feed_of layout.samples layout.channels (samples_in (lent layout file.now) extents) arrival machine bytes.now out.old }
 {
     let mut p = arrival;
     let mut w = machine;
@@ -388,14 +388,14 @@ fn feed_bytes(
 // ---- legality
 
 fn legal_remainder(machine: Machine) -> bool
-    ensures { result ≡ legalRemainder machine }
+    ensures { result ≡ legal_remainder machine }
 {
     (machine.remainder == 0) | (machine.remainder < machine.tempo)
 }
 
 // Whether bytes and voices have their room, as all arrays of them have.
 fn is_room(kept: [u8; KEPT_BYTES], voices: [Voice; WIDTH]) -> bool
-    ensures { (result ≡ true) × (length kept ≡ keptBytes) × (length voices ≡ width) }
+    ensures { (result ≡ true) × (length kept ≡ kept_bytes) × (length voices ≡ width) }
 {
     true
 }
@@ -433,7 +433,7 @@ fn judge_board(layout: Layout, file: &[u8], board: Board) -> Answer
 }
 
 fn refuse(number: u32, place: usize, board: Board) -> Reply
-    ensures { result ≡ refusedBoard board number place }
+    ensures { result ≡ refused_board board number place }
 {
     Reply {
         answer: common::refuse(number, place),
@@ -446,7 +446,7 @@ fn refuse(number: u32, place: usize, board: Board) -> Reply
 
 // The board before its first byte.
 pub fn board_fresh() -> Board
-    ensures { result ≡ freshBoard }
+    ensures { result ≡ fresh_board }
 {
     let voices = machine::fresh().voices;
     Board {
@@ -462,7 +462,7 @@ pub fn board_fresh() -> Board
 // Takes bytes of a stream, and plays each record when its last byte is in: until none is left, one shows a fault, or a tick does not fit into out,
 // whose rest stays.
 pub fn board_feed(file: &[u8], board: Board, bytes: &[u8], out: &mut [i16]) -> Reply
-    ensures { outcome result out.new ≡ boardFeedOf file.now board bytes.now out.old }
+    ensures { outcome result out.new ≡ board_feed_of file.now board bytes.now out.old }
 {
     let layout = reader::offsets::layout_of(file);
     let judged = judge_board(layout, file, board);
@@ -478,7 +478,7 @@ pub fn board_feed(file: &[u8], board: Board, bytes: &[u8], out: &mut [i16]) -> R
 
 // The stream's end is told: short of the declared end it is a fault, which is kept.
 pub fn board_close(file: &[u8], board: Board) -> Reply
-    ensures { result ≡ boardCloseOf file.now board }
+    ensures { result ≡ board_close_of file.now board }
 {
     let layout = reader::offsets::layout_of(file);
     let judged = judge_board(layout, file, board);

@@ -3,7 +3,7 @@ ghost use Rattle.std.specs.Prelude.{◌≡◌, false, ◌≤◌, length};
 ghost use Rattle.reader.specs.File.{module_of};
 ghost use Rattle.reader.specs.Judge.{verdict};
 ghost use Rattle.floats.specs.Frames.{unasked};
-ghost use Rattle.translator.specs.Translate.{mostTicks, streamOf};
+ghost use Rattle.translator.specs.Translate.{most_ticks, stream_of};
 ghost use Rattle.float_agreement.specs.Demand.{FloatCalls, FloatAgreement};
 
 use common::Answer;
@@ -34,8 +34,8 @@ pub fn play_both_floats(
     ensures calls { FloatCalls file.now ticks sides panel_pair board_pair result room.old room.new panel.old panel.new board.old board.new }
     ensures agrees { (verdict (module_of file.now)).number ≡ 0
         → unasked sides ≡ false
-        → ticks ≤ mostTicks
-        → length (streamOf (module_of file.now) ticks) ≤ length room.old
+        → ticks ≤ most_ticks
+        → length (stream_of (module_of file.now) ticks) ≤ length room.old
         → FloatAgreement file.now ticks sides panel_pair board_pair result room.old room.new panel.old panel.new board.old board.new }
 {
     let translated = translator::translate(file, ticks, room);

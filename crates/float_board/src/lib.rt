@@ -4,9 +4,9 @@ ghost use Rattle.common.specs.Answers.{refused, accepted, outcome};
 ghost use Rattle.reader.specs.File.{lent};
 ghost use Rattle.reader.specs.Layouts.{LegalLayout};
 ghost use Rattle.reader.specs.Judge.{verdict};
-ghost use Rattle.voice.specs.Voice.{samplesOf};
+ghost use Rattle.voice.specs.Voice.{samples_of};
 ghost use Rattle.decoder.specs.Remaining.{Good};
-ghost use Rattle.float_board.specs.Board.{floatAnswer, floatBoardOf, playStreamFloatsFromOf, playStreamFloatsOf};
+ghost use Rattle.float_board.specs.Board.{float_answer, float_board_of, play_stream_floats_from_of, play_stream_floats_of};
 
 use board::lead::lead;
 use common::Answer;
@@ -22,7 +22,7 @@ pub struct FloatAnswer {
 }
 
 fn refuse(number: u32, place: usize, pair: Pair) -> FloatAnswer
-    ensures { result ≡ floatAnswer (refused number place) pair }
+    ensures { result ≡ float_answer (refused number place) pair }
 {
     FloatAnswer {
         answer: common::refuse(number, place),
@@ -31,7 +31,7 @@ fn refuse(number: u32, place: usize, pair: Pair) -> FloatAnswer
 }
 
 fn after_ticks(machine: FloatMachine, count: usize) -> FloatAnswer
-    ensures { result ≡ floatAnswer (accepted count) machine.last }
+    ensures { result ≡ float_answer (accepted count) machine.last }
 {
     let last = machine.last;
     FloatAnswer {
@@ -54,7 +54,7 @@ fn play_records(
     requires judged { (verdict (lent layout file.now)).number ≡ 0 }
     requires good { Good layout.samples layout.channels stream.now }
     requires asked { (1 ≤ sides) × (sides ≤ 2) }
-    ensures { outcome result out.new ≡ floatBoardOf layout.samples layout.channels (samplesOf (lent layout file.now)) first stream.now sides old out.old }
+    ensures { outcome result out.new ≡ float_board_of layout.samples layout.channels (samples_of (lent layout file.now)) first stream.now sides old out.old }
 {
     let mut mixed = [0i16; MIXED];
     let extents = reader::samples::extents(layout, file);
@@ -109,7 +109,7 @@ pub fn play_stream_floats_from(
     pair: Pair,
     out: &mut [f32],
 ) -> FloatAnswer
-    ensures { outcome result out.new ≡ playStreamFloatsFromOf file.now stream.now first sides pair out.old }
+    ensures { outcome result out.new ≡ play_stream_floats_from_of file.now stream.now first sides pair out.old }
 {
     let layout = reader::offsets::layout_of(file);
     let judged = reader::judge_by(layout, file);
@@ -134,7 +134,7 @@ pub fn play_stream_floats(
     pair: Pair,
     out: &mut [f32],
 ) -> FloatAnswer
-    ensures { outcome result out.new ≡ playStreamFloatsOf file.now stream.now sides pair out.old }
+    ensures { outcome result out.new ≡ play_stream_floats_of file.now stream.now sides pair out.old }
 {
     play_stream_floats_from(stream, file, 0, sides, pair, out)
 }

@@ -6,22 +6,22 @@ use Rattle.ticks.specs.declared.Tick.{Tick}
 use Rattle.ticks.specs.Play.{Mechanism}
 use Rattle.machine.specs.declared.Machine.{Machine}
 use Rattle.floats.specs.declared.Pair.{Pair}
-use Rattle.floats.specs.Frames.{floatsOf, last_of}
+use Rattle.floats.specs.Frames.{floats_of, last_of}
 use Rattle.float_machine.specs.declared.FloatMachine.{FloatMachine}
 
 -- before a call's first tick, which has number 0: the machine, and the record that the call was given
-abbrev pub floatMachine : Machine → Pair → FloatMachine
-floatMachine w last = record { machine = w; last = last; next = 0 }
+abbrev pub float_machine : Machine → Pair → FloatMachine
+float_machine w last = record { machine = w; last = last; next = 0 }
 
 module _ (k : Mechanism ℤ Machine Tick) where
   -- a tick's numbers: its frames as they are delivered
-  unfoldable pub floatFrames : ℕ → FloatMachine → Tick → List Float
-  floatFrames sides w t = floatsOf sides (k.frames w.machine t)
+  unfoldable pub float_frames : ℕ → FloatMachine → Tick → List Float
+  float_frames sides w t = floats_of sides (k.frames w.machine t)
 
   -- the machine after it, with its last left and right and its number in the call
-  unfoldable pub floatAfter : FloatMachine → Tick → FloatMachine
-  floatAfter w t = record { machine = k.after w.machine t; last = last_of w.next w.last (k.frames w.machine t); next = w.next + 1 }
+  unfoldable pub float_after : FloatMachine → Tick → FloatMachine
+  float_after w t = record { machine = k.after w.machine t; last = last_of w.next w.last (k.frames w.machine t); next = w.next + 1 }
 
 -- how it plays ticks, for a page of so many sides
-abbrev pub floatsBy : ℕ → Mechanism ℤ Machine Tick → Mechanism Float FloatMachine Tick
-floatsBy sides k = record { frames = floatFrames k sides; after = floatAfter k }
+abbrev pub floats_by : ℕ → Mechanism ℤ Machine Tick → Mechanism Float FloatMachine Tick
+floats_by sides k = record { frames = float_frames k sides; after = float_after k }

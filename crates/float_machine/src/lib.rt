@@ -1,15 +1,15 @@
 // The machine that plays floats: the one that player and board share, with the record of the last left and right, and one tick of it into a buffer.
 ghost use Rattle.std.specs.Prelude.{◌≡◌, ◌*◌, ◌<◌, ◌≤◌, length};
-ghost use Rattle.common.specs.Limits.{leastTempo, greatestTempo};
+ghost use Rattle.common.specs.Limits.{least_tempo, greatest_tempo};
 ghost use Rattle.ticks.specs.Play.{over};
 ghost use Rattle.reader.specs.File.{lent};
-ghost use Rattle.voice.specs.Modules.{samplesIn};
-ghost use Rattle.machine.specs.Lengths.{carriedAt, length_at};
+ghost use Rattle.voice.specs.Modules.{samples_in};
+ghost use Rattle.machine.specs.Lengths.{carried_at, length_at};
 ghost use Rattle.machine.specs.Machine.{mechanism};
 ghost use Rattle.machine.specs.Turn.{turn_of};
-ghost use Rattle.floats.specs.Frames.{floatsOf};
-ghost use Rattle.float_machine.specs.Machine.{floatAfter, floatsBy};
-ghost use Rattle.float_machine.specs.Due.{Due, floatTurned};
+ghost use Rattle.floats.specs.Frames.{floats_of};
+ghost use Rattle.float_machine.specs.Machine.{float_after, floats_by};
+ghost use Rattle.float_machine.specs.Due.{Due, float_turned};
 
 use common::limits::SAMPLE_NUMBERS;
 use floats::Pair;
@@ -38,10 +38,10 @@ pub const MIXED: usize = 7500;
 
 // How many numbers a tick takes: so many frames times the sides.
 fn tick_numbers(machine: Machine, tempo: u32, sides: u32) -> usize
-    requires low { leastTempo ≤ tempo }
-    requires remainder { (machine.remainder < machine.tempo) × (machine.tempo ≤ greatestTempo) }
+    requires low { least_tempo ≤ tempo }
+    requires remainder { (machine.remainder < machine.tempo) × (machine.tempo ≤ greatest_tempo) }
     requires asked { sides ≤ 2 }
-    ensures { result ≡ sides * length_at tempo (carriedAt machine.tempo machine.remainder tempo) }
+    ensures { result ≡ sides * length_at tempo (carried_at machine.tempo machine.remainder tempo) }
 {
     let begins = machine::carried_at(machine.tempo, machine.remainder, tempo);
     sides as usize * machine::length_at(tempo, begins)
@@ -63,9 +63,9 @@ fn sound_tick(
     out: &mut [f32],
 ) -> FloatMachine
     requires due { Due layout file.now extents machine tick sides number }
-    requires room { length (floatsOf sides ((mechanism keeps layout.channels (samplesIn (lent layout file.now) extents)).frames machine tick)) ≤ length out.old }
-    ensures moved { result ≡ floatAfter (mechanism keeps layout.channels (samplesIn (lent layout file.now) extents)) (record { machine = machine; last = old; next = number }) tick }
-    ensures sounded { out.new ≡ over (floatsOf sides ((mechanism keeps layout.channels (samplesIn (lent layout file.now) extents)).frames machine tick)) out.old }
+    requires room { length (floats_of sides ((mechanism keeps layout.channels (samples_in (lent layout file.now) extents)).frames machine tick)) ≤ length out.old }
+    ensures moved { result ≡ float_after (mechanism keeps layout.channels (samples_in (lent layout file.now) extents)) (record { machine = machine; last = old; next = number }) tick }
+    ensures sounded { out.new ≡ over (floats_of sides ((mechanism keeps layout.channels (samples_in (lent layout file.now) extents)).frames machine tick)) out.old }
 {
     let next = number + 1;
     let turn = machine::play_tick(layout, file, extents, machine, tick, keeps, mixed);
@@ -93,7 +93,7 @@ pub fn play_tick(
     out: &mut [f32],
 ) -> FloatTurn
     requires due { Due layout file.now extents machine.machine tick sides machine.next }
-    ensures turned { floatTurned result out.new ≡ turn_of (floatsBy sides (mechanism keeps layout.channels (samplesIn (lent layout file.now) extents))) machine tick out.old }
+    ensures turned { float_turned result out.new ≡ turn_of (floats_by sides (mechanism keeps layout.channels (samples_in (lent layout file.now) extents))) machine tick out.old }
     ensures within { result.size ≤ length out.old }
 {
     let shared = machine.machine;

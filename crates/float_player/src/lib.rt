@@ -4,7 +4,7 @@ ghost use Rattle.common.specs.Answers.{refused, accepted, outcome};
 ghost use Rattle.reader.specs.File.{lent};
 ghost use Rattle.player.specs.State.{reply};
 ghost use Rattle.player.specs.Legal.{Playable};
-ghost use Rattle.float_player.specs.Play.{floatReply, floatsFrom, playFloatsOf};
+ghost use Rattle.float_player.specs.Play.{float_reply, floats_from, play_floats_of};
 
 use common::limits::WIDTH;
 use float_machine::{FloatMachine, MIXED};
@@ -23,7 +23,7 @@ pub struct FloatReply {
 }
 
 fn refuse(number: u32, place: usize, state: State, pair: Pair) -> FloatReply
-    ensures { result ≡ floatReply (reply (refused number place) state) pair }
+    ensures { result ≡ float_reply (reply (refused number place) state) pair }
 {
     FloatReply {
         reply: player::refuse(number, place, state),
@@ -32,7 +32,7 @@ fn refuse(number: u32, place: usize, state: State, pair: Pair) -> FloatReply
 }
 
 fn after_ticks(song: Song, machine: FloatMachine, count: u32) -> FloatReply
-    ensures { result ≡ floatReply (reply (accepted count) (record { song = song; voices = machine.machine.voices; remainder = machine.machine.remainder })) machine.last }
+    ensures { result ≡ float_reply (reply (accepted count) (record { song = song; voices = machine.machine.voices; remainder = machine.machine.remainder })) machine.last }
 {
     let shared = machine.machine;
     let last = machine.last;
@@ -56,7 +56,7 @@ fn play_ticks(
 ) -> FloatReply
     requires playable { Playable (lent layout file.now) (record { song = start; voices = sounding; remainder = left }) }
     requires asked { (1 ≤ sides) × (sides ≤ 2) }
-    ensures { outcome result out.new ≡ floatsFrom (lent layout file.now) (record { song = start; voices = sounding; remainder = left }) n sides old out.old }
+    ensures { outcome result out.new ≡ floats_from (lent layout file.now) (record { song = start; voices = sounding; remainder = left }) n sides old out.old }
 {
     let extents = reader::samples::extents(layout, file);
     let mut mixed = [0i16; MIXED];
@@ -110,7 +110,7 @@ pub fn play_floats(
     pair: Pair,
     out: &mut [f32],
 ) -> FloatReply
-    ensures { outcome result out.new ≡ playFloatsOf file.now state ticks sides pair out.old }
+    ensures { outcome result out.new ≡ play_floats_of file.now state ticks sides pair out.old }
 {
     let layout = reader::offsets::layout_of(file);
     let judged = player::legality::judge_state(layout, file, state);

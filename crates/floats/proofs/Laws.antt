@@ -10,18 +10,18 @@ use lib.Ieee.{binary32, div, of_int, of_bits, to_bits, in_float}
 use mir.Syntax.{w16, w32}
 use mir.Val.{SFits, to_z, of_z}
 use mir.ValLaws.{to_z-of_z}
-use Rattle.laws.specs.Signed.{back, mag-add, sfits-below, fits-as, reads_as}
+use Rattle.laws.specs.Signed.{back, mag-add, sfits_below, fits-as, reads_as}
 use Rattle.floats.specs.Exact.{exactly, Exact}
-use Rattle.floats.specs.Quotient.{exactly-is-exact, by-32768, by-65536, small_size}
+use Rattle.floats.specs.Quotient.{exactly_is_exact, by_32768, by_65536, small_size}
 
 -- ---- left and right
 
 module _ (x : ℤ) (f : SFits w16 x) where
-  pub side-is : div binary32 (of_int binary32 (back x)) (of_bits binary32 1191182336) ≡ exactly x 15
-  side-is = ap (λ (z : ℤ). div binary32 (of_int binary32 z) (of_bits binary32 1191182336)) (to_z-of_z w16 x f) ∙ by-32768 x (small_size x f.sfits (lit< tt))
+  pub side_is : div binary32 (of_int binary32 (back x)) (of_bits binary32 1191182336) ≡ exactly x 15
+  side_is = ap (λ (z : ℤ). div binary32 (of_int binary32 z) (of_bits binary32 1191182336)) (to_z-of_z w16 x f) ∙ by_32768 x (small_size x f.sfits (lit< tt))
 
-  pub side-exact : Exact x 15 (to_bits binary32 (div binary32 (of_int binary32 (back x)) (of_bits binary32 1191182336)))
-  side-exact = rw side-is (exactly-is-exact x 15 (small_size x f.sfits (lit< tt)) (lit≤ tt))
+  pub side_exact : Exact x 15 (to_bits binary32 (div binary32 (of_int binary32 (back x)) (of_bits binary32 1191182336)))
+  side_exact = rw side_is (exactly_is_exact x 15 (small_size x f.sfits (lit< tt)) (lit≤ tt))
 
 -- ---- mono
 -- cast to 32 bits
@@ -29,10 +29,10 @@ abbrev wide : ℤ → ℤ
 wide z = to_z w32 (of_z w32 (back z))
 
 fits-wide : (z : ℤ) → SFits w16 z → SFits w32 z
-fits-wide z f = sfits-below w32 f.sfits tt
+fits-wide z f = sfits_below w32 f.sfits tt
 
-pub narrow-fits : (z : ℤ) → SFits w16 z → SFits w32 (back z)
-narrow-fits z f = fits-as w32 (to_z-of_z w16 z f) (fits-wide z f)
+pub narrow_fits : (z : ℤ) → SFits w16 z → SFits w32 (back z)
+narrow_fits z f = fits-as w32 (to_z-of_z w16 z f) (fits-wide z f)
 
 wide_is : (z : ℤ) → SFits w16 z → wide z ≡ z
 wide_is z f = reads_as w32 (to_z-of_z w16 z f) (fits-wide z f)
@@ -50,16 +50,16 @@ module _ (left right : ℤ) (l : SFits w16 left) (r : SFits w16 right) where
   sum_same = ap₂ ◌+ℤ◌ (wide_is left l) (wide_is right r)
 
   pub sum_fits : SFits w32 (wide left +ℤ wide right)
-  sum_fits = fits-as w32 sum_same (sfits-below w32 sum_below tt)
+  sum_fits = fits-as w32 sum_same (sfits_below w32 sum_below tt)
 
   read : to_z w32 (of_z w32 (wide left +ℤ wide right)) ≡ left +ℤ right
-  read = reads_as w32 sum_same (sfits-below w32 sum_below tt)
+  read = reads_as w32 sum_same (sfits_below w32 sum_below tt)
 
-  pub sum-in-float : T (in_float binary32 (to_z w32 (of_z w32 (wide left +ℤ wide right))))
-  sum-in-float = subst (λ (z : ℤ). T (in_float binary32 z)) (sym read) (in-float (left +ℤ right) sum_below)
+  pub sum_in_float : T (in_float binary32 (to_z w32 (of_z w32 (wide left +ℤ wide right))))
+  sum_in_float = subst (λ (z : ℤ). T (in_float binary32 z)) (sym read) (in-float (left +ℤ right) sum_below)
 
-  pub mono-is : div binary32 (of_int binary32 (to_z w32 (of_z w32 (wide left +ℤ wide right)))) (of_bits binary32 1199570944) ≡ exactly (left +ℤ right) 16
-  mono-is = ap (λ (z : ℤ). div binary32 (of_int binary32 z) (of_bits binary32 1199570944)) read ∙ by-65536 (left +ℤ right) (small_size (left +ℤ right) sum_below (lit< tt))
+  pub mono_is : div binary32 (of_int binary32 (to_z w32 (of_z w32 (wide left +ℤ wide right)))) (of_bits binary32 1199570944) ≡ exactly (left +ℤ right) 16
+  mono_is = ap (λ (z : ℤ). div binary32 (of_int binary32 z) (of_bits binary32 1199570944)) read ∙ by_65536 (left +ℤ right) (small_size (left +ℤ right) sum_below (lit< tt))
 
-  pub mono-exact : Exact (left +ℤ right) 16 (to_bits binary32 (div binary32 (of_int binary32 (to_z w32 (of_z w32 (wide left +ℤ wide right)))) (of_bits binary32 1199570944)))
-  mono-exact = rw mono-is (exactly-is-exact (left +ℤ right) 16 (small_size (left +ℤ right) sum_below (lit< tt)) (lit≤ tt))
+  pub mono_exact : Exact (left +ℤ right) 16 (to_bits binary32 (div binary32 (of_int binary32 (to_z w32 (of_z w32 (wide left +ℤ wide right)))) (of_bits binary32 1199570944)))
+  mono_exact = rw mono_is (exactly_is_exact (left +ℤ right) 16 (small_size (left +ℤ right) sum_below (lit< tt)) (lit≤ tt))

@@ -19,7 +19,7 @@ use Rattle.laws.specs.Signed.{back}
 use Rattle.floats.specs.declared.Frame.{Frame}
 use Rattle.floats.specs.declared.Frame.TheVariants.{Silence, Mono, Stereo}
 use Rattle.floats.specs.Exact.{exactly}
-use Rattle.floats.specs.Frames.{is_zero, delivered, positiveZero, numbersIn}
+use Rattle.floats.specs.Frames.{is_zero, delivered, positive_zero, numbers_in}
 
 -- ---- a test for zero, on 16 bits
 pub zero_test : (x : ℤ) → SFits w16 x → eqb (of_z w16 x) 0 ≡ is_zero x
@@ -31,57 +31,57 @@ module _ (left right : ℤ) (l : SFits w16 left) (r : SFits w16 right) (sides : 
   both : (t : Bool) → a && b ≡ t → is_zero left && is_zero right ≡ t
   both t e = sym (rw (p, q, to_z-of_z w16 left l, to_z-of_z w16 right r)) ∙ e
 
-  pub gives-silence : a && b ≡ true → Silence ≡ delivered sides left right
+  pub gives_silence : a && b ≡ true → Silence ≡ delivered sides left right
   unfolding delivered
-  gives-silence e = rw (both true e)
+  gives_silence e = rw (both true e)
 
-  pub gives-mono : (x : Float) → a && b ≡ false → sides ≡ 1 → x ≡ exactly (back left +ℤ back right) 16 → Mono x ≡ delivered sides left right
+  pub gives_mono : (x : Float) → a && b ≡ false → sides ≡ 1 → x ≡ exactly (back left +ℤ back right) 16 → Mono x ≡ delivered sides left right
   unfolding delivered
-  gives-mono x e s h = rw (both false e, eq-eqb sides 1 s, h, to_z-of_z w16 left l, to_z-of_z w16 right r)
+  gives_mono x e s h = rw (both false e, eq-eqb sides 1 s, h, to_z-of_z w16 left l, to_z-of_z w16 right r)
 
-  pub gives-stereo : (x y : Float) → a && b ≡ false → (sides ≡ 1 → ⊥) → x ≡ exactly (back left) 15 → y ≡ exactly (back right) 15 → Stereo x y ≡ delivered sides left right
+  pub gives_stereo : (x y : Float) → a && b ≡ false → (sides ≡ 1 → ⊥) → x ≡ exactly (back left) 15 → y ≡ exactly (back right) 15 → Stereo x y ≡ delivered sides left right
   unfolding delivered
-  gives-stereo x y e s h k = rw (both false e, ne_eqb sides 1 s, h, k, to_z-of_z w16 left l, to_z-of_z w16 right r)
+  gives_stereo x y e s h k = rw (both false e, ne_eqb sides 1 s, h, k, to_z-of_z w16 left l, to_z-of_z w16 right r)
 
 -- ---- stores of one number and of two
 module _ (sides at : ℕ) (l : List Float) where
-  pub one-zero : sides ≡ 1 → set l at positiveZero ≡ sets l at (replicate sides positiveZero)
-  one-zero s = rw s
+  pub one_zero : sides ≡ 1 → set l at positive_zero ≡ sets l at (replicate sides positive_zero)
+  one_zero s = rw s
 
   -- not one, so two
   module _ (asked : (1 ≤ sides) × (sides ≤ 2)) (more : sides ≡ 1 → ⊥) where
-    is-two : sides ≡ 2
-    is-two = omega (arith, asked.0, asked.1, more)
+    is_two : sides ≡ 2
+    is_two = omega (arith, asked.0, asked.1, more)
 
-    pub two-zeros : set (set l at positiveZero) (at + 1) positiveZero ≡ sets l at (replicate sides positiveZero)
-    two-zeros = rw (is-two, add-one)
+    pub two_zeros : set (set l at positive_zero) (at + 1) positive_zero ≡ sets l at (replicate sides positive_zero)
+    two_zeros = rw (is_two, add-one)
 
-    pub second-room : (x : Float) → at + sides ≤ length l → at + 1 < length (set l at x)
-    second-room x h = omega (arith, is-two, length-set l at x)
+    pub second_room : (x : Float) → at + sides ≤ length l → at + 1 < length (set l at x)
+    second_room x h = omega (arith, is_two, length-set l at x)
 
-  pub first-room : (1 ≤ sides) × (sides ≤ 2) → at + sides ≤ length l → at < length l
-  first-room asked h = omega (arith, asked.0)
+  pub first_room : (1 ≤ sides) × (sides ≤ 2) → at + sides ≤ length l → at < length l
+  first_room asked h = omega (arith, asked.0)
 
   -- by the frame's case
-  module _ (frame : Frame) (room : at + length (numbersIn sides frame) ≤ length l) where
-    pub room-silence : frame ≡ Silence → at + sides ≤ length l
-    room-silence e = rw (length-replicate sides positiveZero) at (rw e at room)
+  module _ (frame : Frame) (room : at + length (numbers_in sides frame) ≤ length l) where
+    pub room_silence : frame ≡ Silence → at + sides ≤ length l
+    room_silence e = rw (length-replicate sides positive_zero) at (rw e at room)
 
-    pub room-mono : (x : Float) → frame ≡ Mono x → at < length l
-    room-mono x e = let k : at + 1 ≤ length l = rw e at room in omega arith
+    pub room_mono : (x : Float) → frame ≡ Mono x → at < length l
+    room_mono x e = let k : at + 1 ≤ length l = rw e at room in omega arith
 
-    pub room-stereo : (x y : Float) → frame ≡ Stereo x y → at < length l
-    room-stereo x y e = let k : at + 2 ≤ length l = rw e at room in omega arith
+    pub room_stereo : (x y : Float) → frame ≡ Stereo x y → at < length l
+    room_stereo x y e = let k : at + 2 ≤ length l = rw e at room in omega arith
 
-    pub room-stereo-2 : (x y v : Float) → frame ≡ Stereo x y → at + 1 < length (set l at v)
-    room-stereo-2 x y v e = let k : at + 2 ≤ length l = rw e at room in omega (arith, length-set l at v)
+    pub room_stereo_2 : (x y v : Float) → frame ≡ Stereo x y → at + 1 < length (set l at v)
+    room_stereo_2 x y v e = let k : at + 2 ≤ length l = rw e at room in omega (arith, length-set l at v)
 
   module _ (frame : Frame) where
-    pub stores-silence : (new : List Float) → frame ≡ Silence → new ≡ sets l at (replicate sides positiveZero) → new ≡ sets l at (numbersIn sides frame)
-    stores-silence new e h = rw e h
+    pub stores_silence : (new : List Float) → frame ≡ Silence → new ≡ sets l at (replicate sides positive_zero) → new ≡ sets l at (numbers_in sides frame)
+    stores_silence new e h = rw e h
 
-    pub stores-mono : (x : Float) → frame ≡ Mono x → set l at x ≡ sets l at (numbersIn sides frame)
-    stores-mono x e = rw e
+    pub stores_mono : (x : Float) → frame ≡ Mono x → set l at x ≡ sets l at (numbers_in sides frame)
+    stores_mono x e = rw e
 
-    pub stores-stereo : (x y : Float) → frame ≡ Stereo x y → set (set l at x) (at + 1) y ≡ sets l at (numbersIn sides frame)
-    stores-stereo x y e = rw (e, add-one)
+    pub stores_stereo : (x y : Float) → frame ≡ Stereo x y → set (set l at x) (at + 1) y ≡ sets l at (numbers_in sides frame)
+    stores_stereo x y e = rw (e, add-one)

@@ -27,18 +27,18 @@ exactly z k = of_bits binary32 (bits_of z k)
 abbrev pub sign_of : ℕ → ℕ
 sign_of b = b / 2 ^ 31
 
-abbrev pub powerOf : ℕ → ℕ
-powerOf b = b / 2 ^ 23 % 2 ^ 8
+abbrev pub power_of : ℕ → ℕ
+power_of b = b / 2 ^ 23 % 2 ^ 8
 
-abbrev pub significandOf : ℕ → ℕ
-significandOf b = 2 ^ 23 + b % 2 ^ 23
+abbrev pub significand_of : ℕ → ℕ
+significand_of b = 2 ^ 23 + b % 2 ^ 23
 
 -- the significand times the power of two is z / 2 ^ k, both times 2 ^ 150, so over whole numbers
 pub record Shows (z : ℤ) (k b : ℕ) : Type 0 where
   pub sign : sign_of b ≡ sign_bit z
-  pub lowest : 1 ≤ powerOf b
-  pub highest : powerOf b ≤ 254
-  pub number : significandOf b * 2 ^ powerOf b ≡ nat_abs z * 2 ^ (150 - k)
+  pub lowest : 1 ≤ power_of b
+  pub highest : power_of b ≤ 254
+  pub number : significand_of b * 2 ^ power_of b ≡ nat_abs z * 2 ^ (150 - k)
 
 -- b is the 32 bits of z / 2 ^ k: positive zero for 0
 pub record Exact (z : ℤ) (k b : ℕ) : Type 0 where

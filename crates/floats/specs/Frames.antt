@@ -14,12 +14,12 @@ unasked sides = not (eqb sides 1) && not (eqb sides 2)
 
 -- ---- a frame
 -- left and right are the old numbers divided by 32,768, which is 2 ^ 15
-abbrev pub sideNumber : ℤ → Float
-sideNumber x = exactly x 15
+abbrev pub side_number : ℤ → Float
+side_number x = exactly x 15
 
 -- mono is their sum divided by 65,536, which is 2 ^ 16
-abbrev pub monoNumber : ℤ → ℤ → Float
-monoNumber left right = exactly (left +ℤ right) 16
+abbrev pub mono_number : ℤ → ℤ → Float
+mono_number left right = exactly (left +ℤ right) 16
 
 abbrev pub is_zero : ℤ → Bool
 is_zero z = eqb (nat_abs z) 0
@@ -28,28 +28,28 @@ is_zero z = eqb (nat_abs z) 0
 unfoldable pub delivered : ℕ → ℤ → ℤ → Frame
 delivered sides left right =
     cond (is_zero left && is_zero right) Frame.Silence
-    (cond (eqb sides 1) (Frame.Mono (monoNumber left right)) (Frame.Stereo (sideNumber left) (sideNumber right)))
+    (cond (eqb sides 1) (Frame.Mono (mono_number left right)) (Frame.Stereo (side_number left) (side_number right)))
 
 -- positive zero: all 32 bits are 0
-abbrev pub positiveZero : Float
-positiveZero = of_bits binary32 0
+abbrev pub positive_zero : Float
+positive_zero = of_bits binary32 0
 
 -- the numbers of a delivered frame: silence takes as many zeros as the page has sides
-abbrev pub numbersIn : ℕ → Frame → List Float
-numbersIn sides Frame.Silence = replicate sides positiveZero
-numbersIn sides (Frame.Mono x) = x ∷ []
-numbersIn sides (Frame.Stereo x y) = x ∷ y ∷ []
+abbrev pub numbers_in : ℕ → Frame → List Float
+numbers_in sides Frame.Silence = replicate sides positive_zero
+numbers_in sides (Frame.Mono x) = x ∷ []
+numbers_in sides (Frame.Stereo x y) = x ∷ y ∷ []
 
 -- ---- a list of frames, each a left and a right number
 -- its numbers
-unfoldable pub floatsOf : ℕ → List ℤ → List Float
-floatsOf sides [] = []
-floatsOf sides (x ∷ []) = []
-floatsOf sides (left ∷ right ∷ rest) = numbersIn sides (delivered sides left right) ++ floatsOf sides rest
+unfoldable pub floats_of : ℕ → List ℤ → List Float
+floats_of sides [] = []
+floats_of sides (x ∷ []) = []
+floats_of sides (left ∷ right ∷ rest) = numbers_in sides (delivered sides left right) ++ floats_of sides rest
 
 -- a frame's left and right together as two floats in one record with its tick
 abbrev pub pair_of : ℕ → ℤ → ℤ → Pair
-pair_of tick left right = record { left = sideNumber left; right = sideNumber right; tick = tick }
+pair_of tick left right = record { left = side_number left; right = side_number right; tick = tick }
 
 -- the last left and right; no frame keeps the old record
 unfoldable pub last_of : ℕ → Pair → List ℤ → Pair

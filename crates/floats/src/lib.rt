@@ -5,7 +5,7 @@ ghost use Rattle.std.specs.Float.Ieee.{to_bits};
 ghost use Rattle.std.specs.Float.{binary32};
 ghost use Rattle.ticks.specs.Play.{over};
 ghost use Rattle.floats.specs.Exact.{Exact};
-ghost use Rattle.floats.specs.Frames.{unasked, sideNumber, monoNumber, is_zero, delivered, positiveZero, numbersIn, floatsOf, pair_of, last_of};
+ghost use Rattle.floats.specs.Frames.{unasked, side_number, mono_number, is_zero, delivered, positive_zero, numbers_in, floats_of, pair_of, last_of};
 
 // A delivered frame: silence, one mono number, or a left and right number.
 #[derive(Drop)]
@@ -32,7 +32,7 @@ pub fn is_unasked(sides: u32) -> bool
 
 // x / 2 ^ 15.
 fn side_number(x: i16) -> f32
-    ensures number { result ≡ sideNumber x }
+    ensures number { result ≡ side_number x }
     ensures bits { Exact x 15 (to_bits binary32 result) }
 {
     x as f32 / 32768.0
@@ -40,7 +40,7 @@ fn side_number(x: i16) -> f32
 
 // (left + right) / 2 ^ 16.
 fn mono_number(left: i16, right: i16) -> f32
-    ensures number { result ≡ monoNumber left right }
+    ensures number { result ≡ mono_number left right }
     ensures bits { Exact (left +ℤ right) 16 (to_bits binary32 result) }
 {
     (left as i32 + right as i32) as f32 / 65536.0
@@ -70,7 +70,7 @@ pub fn deliver(left: i16, right: i16, sides: u32) -> Frame
 fn store_silence(sides: u32, out: &mut [f32], at: usize)
     requires asked { (1 ≤ sides) × (sides ≤ 2) }
     requires room { at + sides ≤ length out.old }
-    ensures { out.new ≡ sets out.old at (replicate sides positiveZero) }
+    ensures { out.new ≡ sets out.old at (replicate sides positive_zero) }
 {
     out[at] = 0.0;
     if sides == 1 {
@@ -82,8 +82,8 @@ fn store_silence(sides: u32, out: &mut [f32], at: usize)
 // A delivered frame's numbers into out from a position on.
 pub fn store(frame: Frame, sides: u32, out: &mut [f32], at: usize)
     requires asked { (1 ≤ sides) × (sides ≤ 2) }
-    requires room { at + length (numbersIn sides frame) ≤ length out.old }
-    ensures { out.new ≡ sets out.old at (numbersIn sides frame) }
+    requires room { at + length (numbers_in sides frame) ≤ length out.old }
+    ensures { out.new ≡ sets out.old at (numbers_in sides frame) }
 {
     match frame {
         Frame::Silence => {
@@ -113,7 +113,7 @@ fn pair_at(left: i16, right: i16, tick: u32) -> Pair
 fn put_frame(left: i16, right: i16, sides: u32, out: &mut [f32], at: usize)
     requires asked { (1 ≤ sides) × (sides ≤ 2) }
     requires room { at + sides ≤ length out.old }
-    ensures { out.new ≡ sets out.old at (numbersIn sides (delivered sides left right)) }
+    ensures { out.new ≡ sets out.old at (numbers_in sides (delivered sides left right)) }
 {
     store(deliver(left, right, sides), sides, out, at);
 }
@@ -121,9 +121,9 @@ fn put_frame(left: i16, right: i16, sides: u32, out: &mut [f32], at: usize)
 // A tick's frames, left and right in turn, into the front of out, whose rest stays, and the record after them.
 pub fn convert(frames: &[i16], sides: u32, tick: u32, old: Pair, out: &mut [f32]) -> Pair
     requires asked { (1 ≤ sides) × (sides ≤ 2) }
-    requires room { length (floatsOf sides frames.now) ≤ length out.old }
+    requires room { length (floats_of sides frames.now) ≤ length out.old }
     ensures last { result ≡ last_of tick old frames.now }
-    ensures written { out.new ≡ over (floatsOf sides frames.now) out.old }
+    ensures written { out.new ≡ over (floats_of sides frames.now) out.old }
 {
     let step = sides as usize;
     let mut last = old;

@@ -8,16 +8,16 @@ use Rattle.std.proofs.Math.Bool.{true, false, cond}
 use Rattle.std.proofs.Math.Dec.{T, ltb}
 use borrow.Author.Tests.{ltb-true, ltb-false, le-ltb}
 use borrow.Rule.Slice.PartMut.{put_mid}
-use Rattle.laws.specs.Lent.{tail-long, tail-back}
+use Rattle.laws.specs.Lent.{tail_long, tail_back}
 use Rattle.ticks.specs.Play.{Mechanism, over}
-use Rattle.ticks.specs.Playing.{Playing, Played, playing-more, playing-full}
+use Rattle.ticks.specs.Playing.{Playing, Played, playing_more, playing_full}
 use Rattle.machine.specs.Turn.{Turned, turn, turn_of}
 
 -- ---- what a turn says
 -- with room for the tick it is played
-pub turn-room : {A W S : Type 0} (m : Mechanism A W S) (w : W) (t : S) (out : List A) → length (m.frames w t) ≤ length out → turn_of m w t out ≡ turn false (length (m.frames w t)) (m.after w t) (over (m.frames w t) out)
+pub turn_room : {A W S : Type 0} (m : Mechanism A W S) (w : W) (t : S) (out : List A) → length (m.frames w t) ≤ length out → turn_of m w t out ≡ turn false (length (m.frames w t)) (m.after w t) (over (m.frames w t) out)
 unfolding turn_of
-turn-room m w t out h = rw (le-ltb (length out) (length (m.frames w t)) h)
+turn_room m w t out h = rw (le-ltb (length out) (length (m.frames w t)) h)
 
 pub record Full {A W S : Type 0} (m : Mechanism A W S) (w : W) (t : S) (out : List A) (r : Turned A W) : Type 0 where
   pub small : length out < length (m.frames w t)
@@ -30,17 +30,17 @@ pub record Fits {A W S : Type 0} (m : Mechanism A W S) (w : W) (t : S) (out : Li
   pub cells : r.out ≡ over (m.frames w t) out
 
 module _ {A W S : Type 0} (m : Mechanism A W S) (w : W) (t : S) (out : List A) (r : Turned A W) (e : r ≡ turn_of m w t out) where
-  pub turn-full : r.full ≡ true → Full m w t out r
+  pub turn_full : r.full ≡ true → Full m w t out r
   unfolding turn_of
-  turn-full h = go (ltb (length out) (length (m.frames w t))) refl e
+  turn_full h = go (ltb (length out) (length (m.frames w t))) refl e
     where
       go : (b : Bool) → ltb (length out) (length (m.frames w t)) ≡ b → r ≡ cond b (turn true 0 w out) (turn false (length (m.frames w t)) (m.after w t) (over (m.frames w t) out)) → Full m w t out r
       go true l q = record { small = ltb-true (length out) (length (m.frames w t)) l; cells = ap (λ (x : Turned A W). x.out) q }
       go false l q = absurd (subst T (sym h ∙ ap (λ (x : Turned A W). x.full) q) tt)
 
-  pub turn-fits : r.full ≡ false → Fits m w t out r
+  pub turn_fits : r.full ≡ false → Fits m w t out r
   unfolding turn_of
-  turn-fits h = go (ltb (length out) (length (m.frames w t))) refl e
+  turn_fits h = go (ltb (length out) (length (m.frames w t))) refl e
     where
       go : (b : Bool) → ltb (length out) (length (m.frames w t)) ≡ b → r ≡ cond b (turn true 0 w out) (turn false (length (m.frames w t)) (m.after w t) (over (m.frames w t) out)) → Fits m w t out r
       go true l q = absurd (subst T (sym (ap (λ (x : Turned A W). x.full) q) ∙ h) tt)
@@ -53,23 +53,23 @@ module _ {A W S : Type 0} (m : Mechanism A W S) (w : W) (t : S) (out : List A) (
           }
 
   -- the machine after a turn that fits
-  pub turn-machine : r.full ≡ false → r.machine ≡ m.after w t
-  turn-machine h = (turn-fits h).machine
+  pub turn_machine : r.full ≡ false → r.machine ≡ m.after w t
+  turn_machine h = (turn_fits h).machine
 
 -- ---- a turn of the loop
 module _ {A W S : Type 0} (m : Mechanism A W S) (w₀ : W) (ts₀ : List S) (out₀ : List A) (w : W) (ts : List S) (out : List A) (at i : ℕ) (p : Playing m w₀ ts₀ out₀ w ts out at i) (t : S) (rest : List S) (e : ts ≡ t ∷ rest) (r : Turned A W) (q : r ≡ turn_of m w t (take (length out - at) (drop at out))) where
   -- the next tick does not fit: the buffer stays
   pub stops_same : r.full ≡ true → put_mid at (length out - at) out r.out ≡ out
-  stops_same h = tail-back (λ (xs : List A). xs) at out r.out (turn-full m w t (take (length out - at) (drop at out)) r q h).cells ∙ take-append-drop at out
+  stops_same h = tail_back (λ (xs : List A). xs) at out r.out (turn_full m w t (take (length out - at) (drop at out)) r q h).cells ∙ take-append-drop at out
 
-  pub playing-stops : r.full ≡ true → Played m w₀ ts₀ out₀ w (put_mid at (length out - at) out r.out) i
-  playing-stops h =
-      let f = turn-full m w t (take (length out - at) (drop at out)) r q h in
-      rw (stops_same h) (playing-full m w₀ ts₀ out₀ w ts out at i p t rest e (length (m.frames w t)) refl (rw (tail-long at out) at f.small))
+  pub playing_stops : r.full ≡ true → Played m w₀ ts₀ out₀ w (put_mid at (length out - at) out r.out) i
+  playing_stops h =
+      let f = turn_full m w t (take (length out - at) (drop at out)) r q h in
+      rw (stops_same h) (playing_full m w₀ ts₀ out₀ w ts out at i p t rest e (length (m.frames w t)) refl (rw (tail_long at out) at f.small))
 
   -- it fits
-  pub playing-turns : r.full ≡ false → Playing m w₀ ts₀ out₀ r.machine rest (put_mid at (length out - at) out r.out) (at + r.size) (i + 1)
-  playing-turns h =
-      let f = turn-fits m w t (take (length out - at) (drop at out)) r q h in
-      playing-more m w₀ ts₀ out₀ w ts out at i p t rest e r.size r.machine (put_mid at (length out - at) out r.out) f.size (rw f.size (rw (tail-long at out) at f.room)) f.machine
-      (tail-back (over (m.frames w t)) at out r.out f.cells)
+  pub playing_turns : r.full ≡ false → Playing m w₀ ts₀ out₀ r.machine rest (put_mid at (length out - at) out r.out) (at + r.size) (i + 1)
+  playing_turns h =
+      let f = turn_fits m w t (take (length out - at) (drop at out)) r q h in
+      playing_more m w₀ ts₀ out₀ w ts out at i p t rest e r.size r.machine (put_mid at (length out - at) out r.out) f.size (rw f.size (rw (tail_long at out) at f.room)) f.machine
+      (tail_back (over (m.frames w t)) at out r.out f.cells)

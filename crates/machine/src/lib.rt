@@ -1,12 +1,12 @@
 // The machine that player and board share, and one tick of it, into a buffer or passed by.
 ghost use Rattle.std.specs.Prelude.{◌≡◌, ◌+◌, ◌<◌, ◌≤◌, length};
 ghost use Rattle.reader.specs.File.{lent};
-ghost use Rattle.voice.specs.Modules.{samplesIn};
+ghost use Rattle.voice.specs.Modules.{samples_in};
 ghost use Rattle.reader.specs.Layouts.{LegalLayout};
 ghost use Rattle.voice.specs.LegalFacts.{Ready};
-ghost use Rattle.common.specs.Limits.{greatestTempo};
-ghost use Rattle.machine.specs.Lengths.{tickFrames, carriedAt, length_at, kept_at};
-ghost use Rattle.machine.specs.Machine.{freshMachine, restedAt, after, mechanism};
+ghost use Rattle.common.specs.Limits.{greatest_tempo};
+ghost use Rattle.machine.specs.Lengths.{tick_frames, carried_at, length_at, kept_at};
+ghost use Rattle.machine.specs.Machine.{fresh_machine, rested_at, after, mechanism};
 ghost use Rattle.machine.specs.Turn.{turn_of, turned};
 
 use common::limits::{SAMPLE_NUMBERS, WIDTH};
@@ -39,7 +39,7 @@ const FRESH_TEMPO: u32 = 125;
 
 // The machine before its first tick: every voice stopped, no remainder.
 pub fn fresh() -> Machine
-    ensures { result ≡ freshMachine }
+    ensures { result ≡ fresh_machine }
 {
     let stopped = Voice::fresh();
     let voices = [stopped; WIDTH];
@@ -52,8 +52,8 @@ pub fn fresh() -> Machine
 
 // The remainder that a tick begins with.
 pub fn carried_at(before: u32, remainder: u32, tempo: u32) -> u32
-    requires { remainder ≤ greatestTempo }
-    ensures { (result ≡ carriedAt before remainder tempo) × (result ≤ greatestTempo) }
+    requires { remainder ≤ greatest_tempo }
+    ensures { (result ≡ carried_at before remainder tempo) × (result ≤ greatest_tempo) }
 {
     if tempo == before {
         return remainder;
@@ -63,15 +63,15 @@ pub fn carried_at(before: u32, remainder: u32, tempo: u32) -> u32
 
 // How many frames a tick has.
 pub fn length_at(tempo: u32, remainder: u32) -> usize
-    requires { (0 < tempo) × (remainder ≤ greatestTempo) }
-    ensures { (result ≡ length_at tempo remainder) × (result ≤ tickFrames + greatestTempo) }
+    requires { (0 < tempo) × (remainder ≤ greatest_tempo) }
+    ensures { (result ≡ length_at tempo remainder) × (result ≤ tick_frames + greatest_tempo) }
 {
     ((TICK_FRAMES + remainder) / tempo) as usize
 }
 
 // The remainder that it leaves: none by the old rule.
 fn kept_at(keeps: bool, tempo: u32, remainder: u32) -> u32
-    requires { (0 < tempo) × (remainder ≤ greatestTempo) }
+    requires { (0 < tempo) × (remainder ≤ greatest_tempo) }
     ensures { result ≡ kept_at keeps tempo remainder }
 {
     if keeps {
@@ -82,8 +82,8 @@ fn kept_at(keeps: bool, tempo: u32, remainder: u32) -> u32
 
 // The machine after a tick: its voices, and what the tick's length leaves.
 fn moved_on(voices: [Voice; WIDTH], tempo: u32, keeps: bool, remainder: u32) -> Machine
-    requires { (0 < tempo) × (remainder ≤ greatestTempo) }
-    ensures { result ≡ restedAt voices keeps tempo remainder }
+    requires { (0 < tempo) × (remainder ≤ greatest_tempo) }
+    ensures { result ≡ rested_at voices keeps tempo remainder }
 {
     Machine {
         voices: voices,
@@ -105,8 +105,8 @@ pub fn play_tick(
     requires layout { LegalLayout layout }
     requires ready { Ready (lent layout file.now) extents machine.voices tick.commands }
     requires tempo { 0 < tick.tempo }
-    requires remainder { machine.remainder ≤ greatestTempo }
-    ensures turned { turned result out.new ≡ turn_of (mechanism keeps layout.channels (samplesIn (lent layout file.now) extents)) machine tick out.old }
+    requires remainder { machine.remainder ≤ greatest_tempo }
+    ensures turned { turned result out.new ≡ turn_of (mechanism keeps layout.channels (samples_in (lent layout file.now) extents)) machine tick out.old }
     ensures within { result.size ≤ length out.old }
 {
     let begins = carried_at(machine.tempo, machine.remainder, tick.tempo);
@@ -141,8 +141,8 @@ pub fn pass_tick(
     requires layout { LegalLayout layout }
     requires ready { Ready (lent layout file.now) extents machine.voices tick.commands }
     requires tempo { 0 < tick.tempo }
-    requires remainder { machine.remainder ≤ greatestTempo }
-    ensures { result ≡ after keeps layout.channels (samplesIn (lent layout file.now) extents) machine tick }
+    requires remainder { machine.remainder ≤ greatest_tempo }
+    ensures { result ≡ after keeps layout.channels (samples_in (lent layout file.now) extents) machine tick }
 {
     let begins = carried_at(machine.tempo, machine.remainder, tick.tempo);
     let frames = length_at(tick.tempo, begins);

@@ -2,15 +2,15 @@
 ghost use Rattle.std.specs.Prelude.{◌≡◌, [], ◌++◌, ℕ, ◌*◌, ◌<◌, ◌≤◌, length, get_or, drop};
 ghost use Rattle.laws.specs.Ranges.{every, within};
 ghost use Rattle.laws.specs.Each.{Filled};
-ghost use Rattle.common.specs.Limits.{width, sampleNumbers};
+ghost use Rattle.common.specs.Limits.{width, sample_numbers};
 ghost use Rattle.reader.specs.File.{lent};
-ghost use Rattle.reader.specs.Samples.{noExtent};
+ghost use Rattle.reader.specs.Samples.{no_extent};
 ghost use Rattle.reader.specs.Layouts.{LegalLayout};
 ghost use Rattle.ticks.specs.Commands.{nothing};
-ghost use Rattle.voice.specs.Modules.{sampleWith, samplesIn};
-ghost use Rattle.voice.specs.Frames.{steps_of, scale_of, frameNumbers, blank, mixed, moved};
+ghost use Rattle.voice.specs.Modules.{sample_with, samples_in};
+ghost use Rattle.voice.specs.Frames.{steps_of, scale_of, frame_numbers, blank, mixed, moved};
 ghost use Rattle.voice.specs.LegalFacts.{LegalSound, LoopInside, Ready};
-ghost use Rattle.mixing.specs.Sides.{markAt, toldAt, silentAt};
+ghost use Rattle.mixing.specs.Sides.{mark_at, told_at, silent_at};
 
 use crate::pieces::mix_pieces;
 use common::limits::{SAMPLE_NUMBERS, WIDTH};
@@ -42,8 +42,8 @@ fn named(
     commands: [Command; WIDTH],
 ) -> [Extent; WIDTH]
     requires channels_le_width { channels ≤ width }
-    requires by_index { (i : ℕ) → i < channels → (get_or commands i nothing).sample < sampleNumbers }
-    ensures { Filled (markAt extents commands) noExtent width result channels }
+    requires by_index { (i : ℕ) → i < channels → (get_or commands i nothing).sample < sample_numbers }
+    ensures { Filled (mark_at extents commands) no_extent width result channels }
 {
     let none = extents[0];
     let mut marks = [none; WIDTH];
@@ -65,7 +65,7 @@ fn tell(
     commands: [Command; WIDTH],
 ) -> [Voice; WIDTH]
     requires { channels ≤ width }
-    ensures { result ≡ within (toldAt extents voices commands) blank channels width voices }
+    ensures { result ≡ within (told_at extents voices commands) blank channels width voices }
 {
     let mut w = voices;
     let mut i = 0;
@@ -79,7 +79,7 @@ fn tell(
 // Whether every voice is silent.
 fn quiet(channels: usize, voices: [Voice; WIDTH]) -> bool
     requires { channels ≤ width }
-    ensures { result ≡ every (silentAt voices) channels }
+    ensures { result ≡ every (silent_at voices) channels }
 {
     let mut quiet = true;
     let mut i = 0;
@@ -102,9 +102,9 @@ pub fn mix(
 ) -> [Voice; WIDTH]
     requires layout { LegalLayout layout }
     requires ready { Ready (lent layout file.now) extents voices commands }
-    requires fits { frameNumbers * frames ≤ length out.old }
-    ensures moved { result ≡ moved layout.channels (samplesIn (lent layout file.now) extents) voices commands frames }
-    ensures mixed { out.new ≡ mixed layout.channels (samplesIn (lent layout file.now) extents) voices commands frames ++ drop (frameNumbers * frames) out.old }
+    requires fits { frame_numbers * frames ≤ length out.old }
+    ensures moved { result ≡ moved layout.channels (samples_in (lent layout file.now) extents) voices commands frames }
+    ensures mixed { out.new ≡ mixed layout.channels (samples_in (lent layout file.now) extents) voices commands frames ++ drop (frame_numbers * frames) out.old }
 {
     let channels = layout.channels;
     let marks = named(channels, extents, commands);
@@ -119,9 +119,9 @@ pub fn mix(
 
 // A voice after the next frames, which nobody hears.
 fn pass_voice(extent: Extent, voice: Voice, frames: usize) -> Voice
-    requires looping { LoopInside (sampleWith [] extent) }
+    requires looping { LoopInside (sample_with [] extent) }
     requires legal { LegalSound extent.end voice }
-    ensures { result ≡ steps_of (sampleWith [] extent) frames voice }
+    ensures { result ≡ steps_of (sample_with [] extent) frames voice }
 {
     let pace = voice_runs::pace(voice.period);
     voice_runs::pass(voice, extent, pace, frames)
@@ -138,7 +138,7 @@ pub fn pass(
 ) -> [Voice; WIDTH]
     requires layout { LegalLayout layout }
     requires ready { Ready (lent layout file.now) extents voices commands }
-    ensures { result ≡ moved layout.channels (samplesIn (lent layout file.now) extents) voices commands frames }
+    ensures { result ≡ moved layout.channels (samples_in (lent layout file.now) extents) voices commands frames }
 {
     let mut w = voices;
     let mut i = 0;

@@ -5,7 +5,7 @@ ghost use Rattle.common.specs.LimitFacts.{LegalPeriod};
 ghost use Rattle.runs.specs.Cells.{stride, Woven};
 ghost use Rattle.voice.specs.Range.{LegalSides};
 ghost use Rattle.voice_runs.specs.Runs.{piece, spare};
-ghost use Rattle.mixing.specs.Sides.{voiceIn, Sounding, Pacing, sideAt, laterOf};
+ghost use Rattle.mixing.specs.Sides.{voice_in, Sounding, Pacing, side_at, later_of};
 
 use crate::side::mix_side;
 use common::limits::WIDTH;
@@ -19,7 +19,7 @@ const CELLS: usize = PIECE + SPARE;
 // The voices' paces.
 fn paces_of(channels: usize, voices: [Voice; WIDTH]) -> [Pace; WIDTH]
     requires channels_le_width { channels ≤ width }
-    requires by_index { (i : ℕ) → i < channels → LegalPeriod (voiceIn voices i).period }
+    requires by_index { (i : ℕ) → i < channels → LegalPeriod (voice_in voices i).period }
     ensures { Pacing voices result channels }
 {
     let none = Pace {
@@ -56,8 +56,8 @@ fn mix_piece(
     requires sides { LegalSides channels times }
     requires cells { (frames + spare ≤ length left.old) × (frames + spare ≤ length right.old) × (frames + spare ≤ length further.old) }
     requires fits { (frames ≤ piece) × (stride * (at + frames) ≤ length out.old) }
-    ensures moved { result ≡ laterOf file.now extents voices frames channels }
-    ensures woven { Woven (sideAt file.now extents voices times 0 channels) (sideAt file.now extents voices times 1 channels) at frames out.old out.new }
+    ensures moved { result ≡ later_of file.now extents voices frames channels }
+    ensures woven { Woven (side_at file.now extents voices times 0 channels) (side_at file.now extents voices times 1 channels) at frames out.old out.new }
 {
     let half = mix_side(
         channels, file, extents, voices, paces, times, 0, frames, left, further,
@@ -89,8 +89,8 @@ pub fn mix_pieces(
     requires sounding { Sounding file.now extents voices channels }
     requires sides { LegalSides channels times }
     requires fits { stride * frames ≤ length out.old }
-    ensures moved { result ≡ laterOf file.now extents voices frames channels }
-    ensures woven { Woven (sideAt file.now extents voices times 0 channels) (sideAt file.now extents voices times 1 channels) 0 frames out.old out.new }
+    ensures moved { result ≡ later_of file.now extents voices frames channels }
+    ensures woven { Woven (side_at file.now extents voices times 0 channels) (side_at file.now extents voices times 1 channels) 0 frames out.old out.new }
 {
     let paces = paces_of(channels, voices);
     let mut left = [0i16; CELLS];

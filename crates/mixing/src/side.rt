@@ -5,7 +5,7 @@ ghost use Rattle.runs.specs.Cells.{Holds, Narrow};
 ghost use Rattle.voice.specs.Frames.{steps_of, side_of};
 ghost use Rattle.voice.specs.Range.{LegalSides};
 ghost use Rattle.voice_runs.specs.Runs.{one_at, piece, spare, Paced};
-ghost use Rattle.mixing.specs.Sides.{cut_of, Voiced, Sounding, Pacing, sideAt, sidedOf, soundsOf, Next, Siding};
+ghost use Rattle.mixing.specs.Sides.{cut_of, Voiced, Sounding, Pacing, side_at, sided_of, sounds_of, Next, Siding};
 
 use common::limits::WIDTH;
 use reader::Extent;
@@ -23,7 +23,7 @@ fn side(i: usize) -> usize
 // Whether channel i, of this voice, sounds on a side.
 fn sounds(on: usize, i: usize, voice: Voice) -> bool
     requires { i < width }
-    ensures { result ≡ soundsOf on i voice }
+    ensures { result ≡ sounds_of on i voice }
 {
     if side(i) == on {
         if voice.silent() {
@@ -128,8 +128,8 @@ pub fn mix_side(
     requires sides { LegalSides channels times }
     requires side { on < 2 }
     requires fits { (frames ≤ piece) × (frames + spare ≤ length cells.old) × (frames + spare ≤ length further.old) }
-    ensures moved { result ≡ sidedOf file.now extents voices frames on channels }
-    ensures numbers { Holds (sideAt file.now extents voices times on channels) frames cells.new }
+    ensures moved { result ≡ sided_of file.now extents voices frames on channels }
+    ensures numbers { Holds (side_at file.now extents voices times on channels) frames cells.new }
     ensures narrow { Narrow cells.new frames }
 {
     let begun = begin(

@@ -4,7 +4,7 @@ use Prim.Native.Nat.{ℕ, ◌+◌, ◌-◌, ◌≤◌, ◌<◌}
 use mathlib.Core.Path.{◌≡◌}
 use native.Mathlib.Omega.{arith}
 use borrow.Author.Tests.{lt-ltb, ne_eqb}
-use Rattle.tuning.specs.Table.{greatestOf}
+use Rattle.tuning.specs.Table.{greatest_of}
 use Rattle.tuning.specs.Tuned.{kept}
 use Rattle.motion.specs.Slides.{lowered, raised}
 
@@ -17,12 +17,12 @@ module _ (f p d : ℕ) (z : p ≡ 0 → ⊥) where
   unfolding raised
   raised_by r q = rw (ne_eqb p 0 z) q
 
-  pub raised-over : (g : ℕ) → g ≡ greatestOf f → g < p + d → g ≡ raised f p d
+  pub raised_over : (g : ℕ) → g ≡ greatest_of f → g < p + d → g ≡ raised f p d
   unfolding raised kept
-  raised-over g e h = rw (ne_eqb p 0 z, lt-ltb (greatestOf f) (p + d) (rw e at h)) e
+  raised_over g e h = rw (ne_eqb p 0 z, lt-ltb (greatest_of f) (p + d) (rw e at h)) e
 
-  pub raised-past : (g : ℕ) → g ≡ greatestOf f → g - d < p → g ≡ raised f p d
-  raised-past g e h = raised-over g e (omega arith)
+  pub raised_past : (g : ℕ) → g ≡ greatest_of f → g - d < p → g ≡ raised f p d
+  raised_past g e h = raised_over g e (omega arith)
 
-  pub raised-far : (g : ℕ) → g ≡ greatestOf f → g < d → g ≡ raised f p d
-  raised-far g e h = raised-over g e (omega arith)
+  pub raised_far : (g : ℕ) → g ≡ greatest_of f → g < d → g ≡ raised f p d
+  raised_far g e h = raised_over g e (omega arith)

@@ -6,32 +6,32 @@ use mathlib.Core.Bool.{Bool, true, false}
 use native.Mathlib.Omega.{arith}
 use native.Mathlib.Nat.{mul-le-mul}
 use lib.ListN.{get_or}
-use Rattle.motion.specs.Waves.{lastMemory, halfWave, greatestEntry, rising, peakPlace, sine, isRaising, entrySize, offsetSize, wavered}
-use Rattle.motion.specs.Halves.{entry-most}
+use Rattle.motion.specs.Waves.{last_memory, half_wave, greatest_entry, rising, peak_place, sine, is_raising, entry_size, offset_size, wavered}
+use Rattle.motion.specs.Halves.{entry_most}
 use Rattle.motion.specs.declared.Wave.{Wave}
 
 -- ---- the sine
-pub sine-up : (i r : ℕ) → i ≤ peakPlace → r ≡ get_or rising i 0 → r ≡ sine i
+pub sine_up : (i r : ℕ) → i ≤ peak_place → r ≡ get_or rising i 0 → r ≡ sine i
 unfolding sine
-sine-up i r l q = q ∙ ap (λ (k : ℕ). get_or rising k 0) (omega arith)
+sine_up i r l q = q ∙ ap (λ (k : ℕ). get_or rising k 0) (omega arith)
 
-pub sine-down : (i r : ℕ) → peakPlace < i → r ≡ get_or rising (halfWave - i) 0 → r ≡ sine i
+pub sine_down : (i r : ℕ) → peak_place < i → r ≡ get_or rising (half_wave - i) 0 → r ≡ sine i
 unfolding sine
-sine-down i r l q = q ∙ ap (λ (k : ℕ). get_or rising k 0) (omega arith)
+sine_down i r l q = q ∙ ap (λ (k : ℕ). get_or rising k 0) (omega arith)
 
 -- ---- an entry's product with a depth fits
-pub product-fits : (form place y r : ℕ) → r ≡ entrySize form place → y ≤ lastMemory → r * y < 2 ^ 32
-product-fits form place y r e h =
-    let k : r ≤ greatestEntry = rw e (entry-most form place) in
-    let p : r * y ≤ greatestEntry * lastMemory = mul-le-mul k h in
+pub product_fits : (form place y r : ℕ) → r ≡ entry_size form place → y ≤ last_memory → r * y < 2 ^ 32
+product_fits form place y r e h =
+    let k : r ≤ greatest_entry = rw e (entry_most form place) in
+    let p : r * y ≤ greatest_entry * last_memory = mul-le-mul k h in
     omega arith
 
 -- ---- a wave up or down, whatever is moved
-module _ (up down : ℕ → ℕ → ℕ) (divisor : ℕ) (w : Wave) (n by r : ℕ) (b : Bool) (e : by ≡ offsetSize divisor w) (q : b ≡ isRaising w.place) where
-  pub wavered-up : b ≡ true → r ≡ up n by → r ≡ wavered up down divisor w n
+module _ (up down : ℕ → ℕ → ℕ) (divisor : ℕ) (w : Wave) (n by r : ℕ) (b : Bool) (e : by ≡ offset_size divisor w) (q : b ≡ is_raising w.place) where
+  pub wavered_up : b ≡ true → r ≡ up n by → r ≡ wavered up down divisor w n
   unfolding wavered
-  wavered-up t h = rw (← q, t, ← e) h
+  wavered_up t h = rw (← q, t, ← e) h
 
-  pub wavered-down : b ≡ false → r ≡ down n by → r ≡ wavered up down divisor w n
+  pub wavered_down : b ≡ false → r ≡ down n by → r ≡ wavered up down divisor w n
   unfolding wavered
-  wavered-down t h = rw (← q, t, ← e) h
+  wavered_down t h = rw (← q, t, ← e) h

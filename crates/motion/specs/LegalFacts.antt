@@ -3,44 +3,44 @@
 use Rattle.std.specs.Prelude.{◌≤◌, ◌<◌, ◌≡◌, true}
 use Rattle.std.proofs.Common.{le-leb, leb-true, lt-ltb, ltb-true, eqb-true, lit<}
 use borrow.Author.Rules.{zero≤}
-use Rattle.laws.specs.Every.{all-at, all-by, Each}
+use Rattle.laws.specs.Every.{all_at, all_by, Each}
 use Rattle.laws.specs.Ranges.{all, all_from}
-use Rattle.motion.specs.Waves.{freshWave, lastMemory, wholeWave, squareForm}
-use Rattle.motion.specs.Legal.{isFreshWave, legalWave}
+use Rattle.motion.specs.Waves.{fresh_wave, last_memory, whole_wave, square_form}
+use Rattle.motion.specs.Legal.{is_fresh_wave, legal_wave}
 use Rattle.motion.specs.declared.Wave.{Wave}
 
 -- memories to 15, places to 63, forms to 2
 pub record LegalWave (w : Wave) : Type 0 where
-  pub x : w.x ≤ lastMemory
-  pub y : w.y ≤ lastMemory
-  pub place : w.place < wholeWave
-  pub form : w.form ≤ squareForm
+  pub x : w.x ≤ last_memory
+  pub y : w.y ≤ last_memory
+  pub place : w.place < whole_wave
+  pub form : w.form ≤ square_form
 
-pub fresh-wave-has : (w : Wave) → isFreshWave w ≡ true → w ≡ freshWave
-unfolding isFreshWave
-fresh-wave-has w e =
-    let h = all-at _ e in
+pub fresh_wave_has : (w : Wave) → is_fresh_wave w ≡ true → w ≡ fresh_wave
+unfolding is_fresh_wave
+fresh_wave_has w e =
+    let h = all_at _ e in
     rw (eqb-true w.x 0 (h 0), eqb-true w.y 0 (h 1), eqb-true w.place 0 (h 2), eqb-true w.form 0 (h 3))
 
-pub fresh-wave-by : (w : Wave) → w ≡ freshWave → isFreshWave w ≡ true
-unfolding isFreshWave all all_from
-fresh-wave-by w e = rw e
+pub fresh_wave_by : (w : Wave) → w ≡ fresh_wave → is_fresh_wave w ≡ true
+unfolding is_fresh_wave all all_from
+fresh_wave_by w e = rw e
 
-pub wave-has : (w : Wave) → legalWave w ≡ true → LegalWave w
-unfolding legalWave
-wave-has w e =
-    let h = all-at _ e in
+pub wave_has : (w : Wave) → legal_wave w ≡ true → LegalWave w
+unfolding legal_wave
+wave_has w e =
+    let h = all_at _ e in
     record {
-      x = leb-true w.x lastMemory (h 0);
-      y = leb-true w.y lastMemory (h 1);
-      place = ltb-true w.place wholeWave (h 2);
-      form = leb-true w.form squareForm (h 3);
+      x = leb-true w.x last_memory (h 0);
+      y = leb-true w.y last_memory (h 1);
+      place = ltb-true w.place whole_wave (h 2);
+      form = leb-true w.form square_form (h 3);
     }
 
-pub wave-by : (w : Wave) → LegalWave w → legalWave w ≡ true
-unfolding legalWave Each
-wave-by w h = all-by _ (le-leb _ _ h.x, (le-leb _ _ h.y, (lt-ltb _ _ h.place, (le-leb _ _ h.form, tt))))
+pub wave_by : (w : Wave) → LegalWave w → legal_wave w ≡ true
+unfolding legal_wave Each
+wave_by w h = all_by _ (le-leb _ _ h.x, (le-leb _ _ h.y, (lt-ltb _ _ h.place, (le-leb _ _ h.form, tt))))
 
 -- a fresh wave is legal
-pub fresh-wave-legal : LegalWave freshWave
-fresh-wave-legal = record { x = zero≤; y = zero≤; place = lit< tt; form = zero≤ }
+pub fresh_wave_legal : LegalWave fresh_wave
+fresh_wave_legal = record { x = zero≤; y = zero≤; place = lit< tt; form = zero≤ }

@@ -1,6 +1,6 @@
 // How a period and a volume move: slides within their limits, and the waves of vibrato and tremolo.
 ghost use Rattle.std.specs.Prelude.{◌≡◌};
-ghost use Rattle.motion.specs.Waves.{freshWave};
+ghost use Rattle.motion.specs.Waves.{fresh_wave};
 
 pub mod legal;
 pub mod slides;
@@ -17,7 +17,7 @@ pub struct Wave {
 
 // A wave before its first tick.
 pub fn fresh_wave() -> Wave
-    ensures { result ≡ freshWave }
+    ensures { result ≡ fresh_wave }
 {
     Wave {
         x: 0,

@@ -1,6 +1,6 @@
 // Waves, of vibrato and tremolo alike. A wave's x and y are the digits of a parameter, its place is 0 to 63, its form 0 to 2.
 ghost use Rattle.std.specs.Prelude.{◌≡◌, ◌<◌, ◌≤◌, get_or};
-ghost use Rattle.motion.specs.Waves.{lastMemory, halfWave, rising, peakPlace, sine, isRaising, entrySize, offsetSize, vibrated, trembled, moved, remembered};
+ghost use Rattle.motion.specs.Waves.{last_memory, half_wave, rising, peak_place, sine, is_raising, entry_size, offset_size, vibrated, trembled, moved, remembered};
 
 use crate::Wave;
 use crate::slides::{louder, lowered, raised, softer};
@@ -38,14 +38,14 @@ const RISING: [u32; 17] = [
 ];
 
 fn rising_at(i: usize) -> u32
-    requires { i ≤ peakPlace }
+    requires { i ≤ peak_place }
     ensures { result ≡ get_or rising i 0 }
 {
     RISING[i]
 }
 
 fn sine(i: u32) -> u32
-    requires { i < halfWave }
+    requires { i < half_wave }
     ensures { result ≡ sine i }
 {
     if i <= PEAK_PLACE {
@@ -56,14 +56,14 @@ fn sine(i: u32) -> u32
 }
 
 fn is_raising(place: u32) -> bool
-    ensures { result ≡ isRaising place }
+    ensures { result ≡ is_raising place }
 {
     place < HALF_WAVE
 }
 
 // The size of the entry at a place.
 fn entry_size(form: u32, place: u32) -> u32
-    ensures { result ≡ entrySize form place }
+    ensures { result ≡ entry_size form place }
 {
     let i = place % HALF_WAVE;
     if form == SINE {
@@ -81,15 +81,15 @@ fn entry_size(form: u32, place: u32) -> u32
 // The size of the offset.
 fn offset_size(divisor: u32, wave: Wave) -> u32
     requires divisor { 0 < divisor }
-    requires depth { wave.y ≤ lastMemory }
-    ensures { result ≡ offsetSize divisor wave }
+    requires depth { wave.y ≤ last_memory }
+    ensures { result ≡ offset_size divisor wave }
 {
     entry_size(wave.form as u32, wave.place as u32) * wave.y as u32 / divisor
 }
 
 // A period under vibrato.
 pub fn vibrated(finetune: u32, wave: Wave, period: u32) -> u32
-    requires depth { wave.y ≤ lastMemory }
+    requires depth { wave.y ≤ last_memory }
     ensures { result ≡ vibrated finetune wave period }
 {
     let by = offset_size(VIBRATO_DIVISOR, wave);
@@ -102,7 +102,7 @@ pub fn vibrated(finetune: u32, wave: Wave, period: u32) -> u32
 
 // A volume under tremolo.
 pub fn trembled(wave: Wave, volume: u32) -> u32
-    requires depth { wave.y ≤ lastMemory }
+    requires depth { wave.y ≤ last_memory }
     ensures { result ≡ trembled wave volume }
 {
     let by = offset_size(TREMOLO_DIVISOR, wave);

@@ -1,38 +1,38 @@
--- What holds of a burst: it keeps a legal state legal (`burst-keeps`), and a refused one changes nothing (`burst-refused-state`, `burst-refused-answers`).
+-- What holds of a burst: it keeps a legal state legal (`burst_keeps`), and a refused one changes nothing (`burst_refused_state`, `burst_refused_answers`).
 -- Assumes nothing.
 use Rattle.std.specs.Prelude.{◌≡◌, ℕ, zero, suc, true, List, length}
 use Rattle.std.proofs.Math.Path.{refl}
-use Rattle.common.specs.AnswerLaws.{refusing-has, refused-keeps}
+use Rattle.common.specs.AnswerLaws.{refusing_has, refused_keeps}
 use Rattle.common.specs.Answers.{Outcome}
 use Rattle.reader.specs.File.{module_of}
 use Rattle.player.specs.declared.State.{State}
 use Rattle.player.specs.declared.Reply.{Reply}
-use Rattle.player.specs.State.{legalState}
+use Rattle.player.specs.State.{legal_state}
 use Rattle.player.specs.Touch.{touch_of}
-use Rattle.player.specs.Burst.{Burst, stateThrough, takenFrom, burstOf}
-use Rattle.player.specs.Keeps.{touched-keeps}
+use Rattle.player.specs.Burst.{Burst, state_through, taken_from, burst_of}
+use Rattle.player.specs.Keeps.{touched_keeps}
 
 -- ---- a refusal changes nothing
-module _ (bytes : List ℕ) (s : State) (b : Burst) (answers : List ℕ) (h : (burstOf bytes s b answers).reply.answer.number ≡ 0 → ⊥) where
+module _ (bytes : List ℕ) (s : State) (b : Burst) (answers : List ℕ) (h : (burst_of bytes s b answers).reply.answer.number ≡ 0 → ⊥) where
   -- a refused burst leaves the state as it stood
-  pub burst-refused-state : (burstOf bytes s b answers).reply.state ≡ s
-  unfolding burstOf takenFrom
-  burst-refused-state = refused-keeps (λ (o : Outcome Reply ℕ). o.reply.answer.number) (λ (o : Outcome Reply ℕ). o.reply.state) s _ _ _ refl (λ number place. refl) h
+  pub burst_refused_state : (burst_of bytes s b answers).reply.state ≡ s
+  unfolding burst_of taken_from
+  burst_refused_state = refused_keeps (λ (o : Outcome Reply ℕ). o.reply.answer.number) (λ (o : Outcome Reply ℕ). o.reply.state) s _ _ _ refl (λ number place. refl) h
 
   -- and every answer cell
-  pub burst-refused-answers : (burstOf bytes s b answers).out ≡ answers
-  unfolding burstOf takenFrom
-  burst-refused-answers = refused-keeps (λ (o : Outcome Reply ℕ). o.reply.answer.number) (λ (o : Outcome Reply ℕ). o.out) answers _ _ _ refl (λ number place. refl) h
+  pub burst_refused_answers : (burst_of bytes s b answers).out ≡ answers
+  unfolding burst_of taken_from
+  burst_refused_answers = refused_keeps (λ (o : Outcome Reply ℕ). o.reply.answer.number) (λ (o : Outcome Reply ℕ). o.out) answers _ _ _ refl (λ number place. refl) h
 
 -- ---- legality
-module _ (bytes : List ℕ) (b : Burst) (s : State) (l : legalState (module_of bytes) s ≡ true) where
+module _ (bytes : List ℕ) (b : Burst) (s : State) (l : legal_state (module_of bytes) s ≡ true) where
   -- each touch meets a legal state
-  pub through-keeps : (k : ℕ) → legalState (module_of bytes) (stateThrough (touch_of bytes) b s k) ≡ true
-  unfolding stateThrough
-  through-keeps zero = l
-  through-keeps (suc k) = touched-keeps bytes (stateThrough (touch_of bytes) b s k) (through-keeps k) _ _ _
+  pub through_keeps : (k : ℕ) → legal_state (module_of bytes) (state_through (touch_of bytes) b s k) ≡ true
+  unfolding state_through
+  through_keeps zero = l
+  through_keeps (suc k) = touched_keeps bytes (state_through (touch_of bytes) b s k) (through_keeps k) _ _ _
 
   -- a burst keeps a state legal, whether it is accepted or refused
-  pub burst-keeps : (answers : List ℕ) → legalState (module_of bytes) (burstOf bytes s b answers).reply.state ≡ true
-  unfolding burstOf takenFrom
-  burst-keeps answers = refusing-has (λ (o : Outcome Reply ℕ). legalState (module_of bytes) o.reply.state ≡ true) _ _ _ (λ number place. l) (λ p. through-keeps (length b.pages))
+  pub burst_keeps : (answers : List ℕ) → legal_state (module_of bytes) (burst_of bytes s b answers).reply.state ≡ true
+  unfolding burst_of taken_from
+  burst_keeps answers = refusing_has (λ (o : Outcome Reply ℕ). legal_state (module_of bytes) o.reply.state ≡ true) _ _ _ (λ number place. l) (λ p. through_keeps (length b.pages))

@@ -3,32 +3,32 @@
 use Rattle.std.specs.Prelude.{ℕ, ◌-◌, not, ◌&&◌, List, [], ◌∷◌, nat_le, nat_lt, slice_index_or}
 use Rattle.common.specs.Answers.{refused, accepted, Line, line, refusing}
 use Rattle.common.specs.declared.Answer.{Answer}
-use Rattle.reader.specs.File.{Module, module_of, channelCount}
+use Rattle.reader.specs.File.{Module, module_of, channel_count}
 use Rattle.voice.specs.declared.quiet.Cause.{Cause}
 use Rattle.voice.specs.declared.Voice.{Voice}
-use Rattle.voice.specs.Voice.{samplesOf}
+use Rattle.voice.specs.Voice.{samples_of}
 use Rattle.voice.specs.Frames.{blank}
-use Rattle.voice.specs.Quiet.{causeOf, causeNumber}
+use Rattle.voice.specs.Quiet.{cause_of, cause_number}
 use Rattle.player.specs.declared.State.{State}
 use Rattle.player.specs.declared.Why.{Why}
 use Rattle.player.specs.declared.Why.TheVariants.{Refused, Because}
-use Rattle.player.specs.State.{stateLines}
+use Rattle.player.specs.State.{state_lines}
 
 -- a voice's cause, by the bytes of its own sample
-abbrev pub voiceCause : Module → Voice → Cause
-voiceCause m v = causeOf (samplesOf m v.sample).bytes v
+abbrev pub voice_cause : Module → Voice → Cause
+voice_cause m v = cause_of (samples_of m v.sample).bytes v
 
 -- 25: channel not 1 to the number of channels
-abbrev pub channelLine : Module → ℕ → Line
-channelLine m channel = line 25 (not (nat_lt 0 channel && nat_le channel (channelCount m))) 0
+abbrev pub channel_line : Module → ℕ → Line
+channel_line m channel = line 25 (not (nat_lt 0 channel && nat_le channel (channel_count m))) 0
 
 -- the call: nothing is written
-unfoldable pub whyQuietOf : List ℕ → State → ℕ → Why
-whyQuietOf bytes s channel =
-    refusing (λ number place. Refused (refused number place)) (Because (voiceCause (module_of bytes) (slice_index_or s.voices (channel - 1) blank)))
-    (stateLines (module_of bytes) s (channelLine (module_of bytes) channel ∷ []))
+unfoldable pub why_quiet_of : List ℕ → State → ℕ → Why
+why_quiet_of bytes s channel =
+    refusing (λ number place. Refused (refused number place)) (Because (voice_cause (module_of bytes) (slice_index_or s.voices (channel - 1) blank)))
+    (state_lines (module_of bytes) s (channel_line (module_of bytes) channel ∷ []))
 
 -- as an answer: the count is the cause's number
-abbrev pub whyAnswer : Why → Answer
-whyAnswer (Refused a) = a
-whyAnswer (Because c) = accepted (causeNumber c)
+abbrev pub why_answer : Why → Answer
+why_answer (Refused a) = a
+why_answer (Because c) = accepted (cause_number c)

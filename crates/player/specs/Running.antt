@@ -7,31 +7,31 @@ use native.Mathlib.Omega.{arith}
 use borrow.Rule.Slice.PartMut.{put_mid}
 use Rattle.common.specs.ByteLaws.{Bytes}
 use Rattle.ticks.specs.declared.Tick.{Tick}
-use Rattle.ticks.specs.Play.{Mechanism, fit, afterFit, playOut}
-use Rattle.ticks.specs.Playing.{Playing, Played, playing-none, playing-all}
+use Rattle.ticks.specs.Play.{Mechanism, fit, after_fit, play_out}
+use Rattle.ticks.specs.Playing.{Playing, Played, playing_none, playing_all}
 use Rattle.reader.specs.File.{Module}
 use Rattle.reader.specs.Judge.{verdict}
 use Rattle.sequencer.specs.declared.Song.{Song}
-use Rattle.sequencer.specs.Songs.{tickOf}
-use Rattle.sequencer.specs.Runs.{soundingAfterTick, ticksFrom, songAfter}
+use Rattle.sequencer.specs.Songs.{tick_of}
+use Rattle.sequencer.specs.Runs.{sounding_after_tick, ticks_from, song_after}
 use Rattle.voice.specs.declared.Voice.{Voice}
 use Rattle.machine.specs.Turn.{Turned, turn_of}
-use Rattle.machine.specs.Turns.{turn-machine, stops_same, playing-stops, playing-turns}
+use Rattle.machine.specs.Turns.{turn_machine, stops_same, playing_stops, playing_turns}
 use Rattle.player.specs.declared.State.{State}
-use Rattle.player.specs.Play.{soundings, ticksOf}
+use Rattle.player.specs.Play.{soundings, ticks_of}
 use Rattle.player.specs.Legal.{LegalVoiced}
-use Rattle.player.specs.Kept.{tick-kept, after-soundings}
+use Rattle.player.specs.Kept.{tick_kept, after_soundings}
 use Rattle.reader.specs.Layouts.{LegalLayout}
 use Rattle.machine.specs.Carries.{Carries}
 
 -- ---- the ticks that are left
-next-ticks : (m : Module) (n i : ℕ) (song : Song) (k : List ℕ) → i < n → ticksFrom m (n - i) song k ≡ (tickOf m song k).tick ∷ ticksFrom m (n - (i + 1)) (tickOf m song k).song (soundingAfterTick m song k)
-unfolding ticksFrom
-next-ticks m n i song k l = let e : n - i ≡ suc (n - (i + 1)) = omega arith in rw e
+next_ticks : (m : Module) (n i : ℕ) (song : Song) (k : List ℕ) → i < n → ticks_from m (n - i) song k ≡ (tick_of m song k).tick ∷ ticks_from m (n - (i + 1)) (tick_of m song k).song (sounding_after_tick m song k)
+unfolding ticks_from
+next_ticks m n i song k l = let e : n - i ≡ suc (n - (i + 1)) = omega arith in rw e
 
-no-ticks : (m : Module) (n i : ℕ) (song : Song) (k : List ℕ) → n ≤ i → ticksFrom m (n - i) song k ≡ []
-unfolding ticksFrom
-no-ticks m n i song k l = let e : n - i ≡ 0 = omega arith in rw e
+no_ticks : (m : Module) (n i : ℕ) (song : Song) (k : List ℕ) → n ≤ i → ticks_from m (n - i) song k ≡ []
+unfolding ticks_from
+no_ticks m n i song k l = let e : n - i ≡ 0 = omega arith in rw e
 
 module _ {A W : Type 0} (k : Mechanism A W Tick) (voicesOf : W → List Voice) (m : Module) where
   -- i ticks of n are played from s₀, on w₀ and into out₀; the song, the machine and the buffer are these, and the next tick begins at `at`
@@ -42,15 +42,15 @@ module _ {A W : Type 0} (k : Mechanism A W Tick) (voicesOf : W → List Voice) (
     pub carries : Carries k voicesOf m
     pub legal : LegalVoiced m song (voicesOf w)
     pub low : i ≤ n
-    pub there : (j : ℕ) → songAfter m (i + j) s₀.song (soundings s₀.voices) ≡ songAfter m j song (soundings (voicesOf w))
-    pub playing : Playing k w₀ (ticksOf m n s₀) out₀ w (ticksFrom m (n - i) song (soundings (voicesOf w))) out at i
+    pub there : (j : ℕ) → song_after m (i + j) s₀.song (soundings s₀.voices) ≡ song_after m j song (soundings (voicesOf w))
+    pub playing : Playing k w₀ (ticks_of m n s₀) out₀ w (ticks_from m (n - i) song (soundings (voicesOf w))) out at i
 
   -- the play is over: how many ticks were played, the song, the machine and the buffer after them
   pub record Over (s₀ : State) (w₀ : W) (n : ℕ) (out₀ : List A) (song : Song) (w : W) (out : List A) (i : ℕ) : Type 0 where
-    pub count : i ≡ fit k (length out₀) w₀ (ticksOf m n s₀)
-    pub tune : song ≡ songAfter m i s₀.song (soundings s₀.voices)
-    pub machine : w ≡ afterFit k (length out₀) w₀ (ticksOf m n s₀)
-    pub cells : out ≡ playOut k w₀ (ticksOf m n s₀) out₀
+    pub count : i ≡ fit k (length out₀) w₀ (ticks_of m n s₀)
+    pub tune : song ≡ song_after m i s₀.song (soundings s₀.voices)
+    pub machine : w ≡ after_fit k (length out₀) w₀ (ticks_of m n s₀)
+    pub cells : out ≡ play_out k w₀ (ticks_of m n s₀) out₀
 
   pub running_none : (s₀ : State) (w₀ : W) (n : ℕ) (out₀ : List A) → LegalLayout m.layout → (verdict m).number ≡ 0 → Bytes m.bytes → Carries k voicesOf m → LegalVoiced m s₀.song (voicesOf w₀) → voicesOf w₀ ≡ s₀.voices
       → Running s₀ w₀ n out₀ s₀.song w₀ out₀ 0 0
@@ -64,50 +64,50 @@ module _ {A W : Type 0} (k : Mechanism A W Tick) (voicesOf : W → List Voice) (
         legal = l;
         low = omega arith;
         there = λ j. let q : 0 + j ≡ j = omega arith in rw (q, v);
-        playing = rw (z, v) (playing-none k w₀ (ticksOf m n s₀) out₀);
+        playing = rw (z, v) (playing_none k w₀ (ticks_of m n s₀) out₀);
       }
 
   module _ {s₀ : State} {w₀ : W} {n : ℕ} {out₀ : List A} {song : Song} {w : W} {out : List A} {at i : ℕ} (g : Running s₀ w₀ n out₀ song w out at i) where
-    over_by : (end : List A) → Played k w₀ (ticksOf m n s₀) out₀ w end i → Over s₀ w₀ n out₀ song w end i
-    unfolding songAfter
+    over_by : (end : List A) → Played k w₀ (ticks_of m n s₀) out₀ w end i → Over s₀ w₀ n out₀ song w end i
+    unfolding song_after
     over_by end p =
         record {
           count = p.count;
-          tune = sym (g.there 0) ∙ ap (λ (j : ℕ). songAfter m j s₀.song (soundings s₀.voices)) (add-zero i);
+          tune = sym (g.there 0) ∙ ap (λ (j : ℕ). song_after m j s₀.song (soundings s₀.voices)) (add-zero i);
           machine = p.state;
           cells = p.cells;
         }
 
     -- all ticks are played
-    pub over-all : n ≤ i → Over s₀ w₀ n out₀ song w out i
-    over-all h = over_by out (playing-all k w₀ (ticksOf m n s₀) out₀ w _ out at i g.playing (no-ticks m n i song (soundings (voicesOf w)) h))
+    pub over_all : n ≤ i → Over s₀ w₀ n out₀ song w out i
+    over_all h = over_by out (playing_all k w₀ (ticks_of m n s₀) out₀ w _ out at i g.playing (no_ticks m n i song (soundings (voicesOf w)) h))
 
-    module _ (h : i < n) (r : Turned A W) (q : r ≡ turn_of k w (tickOf m song (soundings (voicesOf w))).tick (take (length out - at) (drop at out))) where
+    module _ (h : i < n) (r : Turned A W) (q : r ≡ turn_of k w (tick_of m song (soundings (voicesOf w))).tick (take (length out - at) (drop at out))) where
       abbrev t : Tick
-      t = (tickOf m song (soundings (voicesOf w))).tick
+      t = (tick_of m song (soundings (voicesOf w))).tick
 
       -- the next does not fit
-      pub over-full : r.full ≡ true → Over s₀ w₀ n out₀ song w (put_mid at (length out - at) out r.out) i
-      over-full f = over_by (put_mid at (length out - at) out r.out) (playing-stops k w₀ (ticksOf m n s₀) out₀ w _ out at i g.playing t _ (next-ticks m n i song (soundings (voicesOf w)) h) r q f)
+      pub over_full : r.full ≡ true → Over s₀ w₀ n out₀ song w (put_mid at (length out - at) out r.out) i
+      over_full f = over_by (put_mid at (length out - at) out r.out) (playing_stops k w₀ (ticks_of m n s₀) out₀ w _ out at i g.playing t _ (next_ticks m n i song (soundings (voicesOf w)) h) r q f)
 
-      pub full-long : r.full ≡ true → length (put_mid at (length out - at) out r.out) ≡ length out₀
-      full-long f = ap length (stops_same k w₀ (ticksOf m n s₀) out₀ w _ out at i g.playing t _ (next-ticks m n i song (soundings (voicesOf w)) h) r q f) ∙ g.playing.long
+      pub full_long : r.full ≡ true → length (put_mid at (length out - at) out r.out) ≡ length out₀
+      full_long f = ap length (stops_same k w₀ (ticks_of m n s₀) out₀ w _ out at i g.playing t _ (next_ticks m n i song (soundings (voicesOf w)) h) r q f) ∙ g.playing.long
 
       -- it fits
-      pub running_more : r.full ≡ false → Running s₀ w₀ n out₀ (tickOf m song (soundings (voicesOf w))).song r.machine (put_mid at (length out - at) out r.out) (at + r.size) (i + 1)
-      unfolding songAfter
+      pub running_more : r.full ≡ false → Running s₀ w₀ n out₀ (tick_of m song (soundings (voicesOf w))).song r.machine (put_mid at (length out - at) out r.out) (at + r.size) (i + 1)
+      unfolding song_after
       running_more f =
-          let next = next-ticks m n i song (soundings (voicesOf w)) h in
-          let v : r.machine ≡ k.after w t = turn-machine k w t (take (length out - at) (drop at out)) r q f in
-          let heard = after-soundings k voicesOf m g.carries g.layout g.judge g.bytes song w g.legal in
-          let turns = playing-turns k w₀ (ticksOf m n s₀) out₀ w _ out at i g.playing t _ next r q f in
+          let next = next_ticks m n i song (soundings (voicesOf w)) h in
+          let v : r.machine ≡ k.after w t = turn_machine k w t (take (length out - at) (drop at out)) r q f in
+          let heard = after_soundings k voicesOf m g.carries g.layout g.judge g.bytes song w g.legal in
+          let turns = playing_turns k w₀ (ticks_of m n s₀) out₀ w _ out at i g.playing t _ next r q f in
           rw v
           (record {
             layout = g.layout;
             judge = g.judge;
             bytes = g.bytes;
             carries = g.carries;
-            legal = tick-kept k voicesOf m g.carries g.layout g.judge g.bytes song w g.legal;
+            legal = tick_kept k voicesOf m g.carries g.layout g.judge g.bytes song w g.legal;
             low = omega arith;
             there = λ j. let e : i + 1 + j ≡ i + suc j = omega arith in rw (e, heard) (g.there (suc j));
             playing = rw heard (rw v at turns);

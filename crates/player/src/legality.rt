@@ -1,8 +1,8 @@
 // Refusal 14: whether a lent state is legal for a module.
 ghost use Rattle.std.specs.Prelude.{◌≡◌};
-ghost use Rattle.reader.specs.File.{lent, songLength};
-ghost use Rattle.reader.specs.Samples.{extentsOf};
-ghost use Rattle.player.specs.State.{legalState};
+ghost use Rattle.reader.specs.File.{lent, song_length};
+ghost use Rattle.reader.specs.Samples.{extents_of};
+ghost use Rattle.player.specs.State.{legal_state};
 ghost use Rattle.player.specs.Legal.{Judged};
 ghost use Rattle.reader.specs.Layouts.{LegalLayout};
 
@@ -20,9 +20,9 @@ pub fn legal_state(
     state: State,
 ) -> bool
     requires layout { LegalLayout layout }
-    requires length { positions ≡ songLength (lent layout file.now) }
-    requires table { extents ≡ extentsOf (lent layout file.now) }
-    ensures { result ≡ legalState (lent layout file.now) state }
+    requires length { positions ≡ song_length (lent layout file.now) }
+    requires table { extents ≡ extents_of (lent layout file.now) }
+    ensures { result ≡ legal_state (lent layout file.now) state }
 {
     let song = sequencer::legality::legal(positions, layout, state.song);
     let voices = state.voices;

@@ -1,11 +1,11 @@
 // The player: states, play, touches and page changes. Every call judges the module again, and answers any state.
 ghost use Rattle.std.specs.Prelude.{◌≡◌};
 ghost use Rattle.common.specs.Answers.{refused, accepted, outcome};
-ghost use Rattle.player.specs.State.{freshState, reply};
-ghost use Rattle.player.specs.Play.{playOf};
-ghost use Rattle.player.specs.Touch.{changePageOf, touch_of};
-ghost use Rattle.player.specs.Burst.{burstOf};
-ghost use Rattle.player.specs.Quiet.{whyQuietOf};
+ghost use Rattle.player.specs.State.{fresh_state, reply};
+ghost use Rattle.player.specs.Play.{play_of};
+ghost use Rattle.player.specs.Touch.{change_page_of, touch_of};
+ghost use Rattle.player.specs.Burst.{burst_of};
+ghost use Rattle.player.specs.Quiet.{why_quiet_of};
 
 use common::Answer;
 use common::limits::WIDTH;
@@ -61,7 +61,7 @@ fn accept(count: usize, state: State) -> Reply
 
 // The fresh state.
 pub fn fresh() -> State
-    ensures { result ≡ freshState }
+    ensures { result ≡ fresh_state }
 {
     let voices = machine::fresh().voices;
     State {
@@ -74,7 +74,7 @@ pub fn fresh() -> State
 // Plays the largest number of whole ticks, up to `ticks`, whose frames fit into out; the rest of out stays. The extents of the samples are found
 // once, for judging the state and for playing.
 pub fn play(file: &[u8], state: State, ticks: u32, out: &mut [i16]) -> Reply
-    ensures { outcome result out.new ≡ playOf file.now state ticks out.old }
+    ensures { outcome result out.new ≡ play_of file.now state ticks out.old }
 {
     let layout = reader::offsets::layout_of(file);
     let judged = reader::judge_by(layout, file);
@@ -103,7 +103,7 @@ pub fn play(file: &[u8], state: State, ticks: u32, out: &mut [i16]) -> Reply
 
 // A page change: touches made on the page before are refused from now on.
 pub fn change_page(file: &[u8], state: State) -> Reply
-    ensures { result ≡ changePageOf file.now state }
+    ensures { result ≡ change_page_of file.now state }
 {
     let layout = reader::offsets::layout_of(file);
     let judged = legality::judge_state(layout, file, state);
@@ -137,7 +137,7 @@ pub fn touch_burst(
     positions: &[u32],
     answers: &mut [u32],
 ) -> Reply
-    ensures { outcome result answers.new ≡ burstOf file.now state (record { pages = pages.entry.now; mades = mades.now; positions = positions.now }) answers.old }
+    ensures { outcome result answers.new ≡ burst_of file.now state (record { pages = pages.entry.now; mades = mades.now; positions = positions.now }) answers.old }
 {
     let layout = reader::offsets::layout_of(file);
     let judged = legality::judge_state(layout, file, state);
@@ -151,7 +151,7 @@ pub fn touch_burst(
 
 // Why a channel, from 1, is quiet in the next frame.
 pub fn why_quiet(file: &[u8], state: State, channel: u32) -> Why
-    ensures { result ≡ whyQuietOf file.now state channel }
+    ensures { result ≡ why_quiet_of file.now state channel }
 {
     let layout = reader::offsets::layout_of(file);
     let judged = legality::judge_state(layout, file, state);

@@ -3,12 +3,12 @@ ghost use Rattle.std.specs.Prelude.{◌≡◌};
 ghost use Rattle.common.specs.Answers.{accepted, outcome};
 ghost use Rattle.reader.specs.File.{lent};
 ghost use Rattle.reader.specs.Judge.{verdict};
-ghost use Rattle.reader.specs.Samples.{extentsOf};
+ghost use Rattle.reader.specs.Samples.{extents_of};
 ghost use Rattle.reader.specs.Layouts.{LegalLayout};
 ghost use Rattle.sequencer.specs.LegalFacts.{LegalRun};
-ghost use Rattle.sequencer.specs.Songs.{tickOf};
+ghost use Rattle.sequencer.specs.Songs.{tick_of};
 ghost use Rattle.player.specs.State.{reply};
-ghost use Rattle.player.specs.Play.{soundings, playedFrom};
+ghost use Rattle.player.specs.Play.{soundings, played_from};
 ghost use Rattle.player.specs.Legal.{Playable};
 
 use crate::{Reply, State};
@@ -35,7 +35,7 @@ pub fn next_tick(layout: Layout, file: &[u8], song: Song, machine: Machine) -> W
     requires layout { LegalLayout layout }
     requires accepted { (verdict (lent layout file.now)).number ≡ 0 }
     requires legal { LegalRun (lent layout file.now) song (soundings machine.voices) }
-    ensures { result ≡ tickOf (lent layout file.now) song (soundings machine.voices) }
+    ensures { result ≡ tick_of (lent layout file.now) song (soundings machine.voices) }
 {
     let voices = machine.voices;
     sequencer::tick(layout, file, song, soundings(voices))
@@ -67,8 +67,8 @@ pub fn play_ticks(
     out: &mut [i16],
 ) -> Reply
     requires playable { Playable (lent layout file.now) (record { song = start; voices = sounding; remainder = left }) }
-    requires table { extents ≡ extentsOf (lent layout file.now) }
-    ensures { outcome result out.new ≡ playedFrom (lent layout file.now) (record { song = start; voices = sounding; remainder = left }) n out.old }
+    requires table { extents ≡ extents_of (lent layout file.now) }
+    ensures { outcome result out.new ≡ played_from (lent layout file.now) (record { song = start; voices = sounding; remainder = left }) n out.old }
 {
     let mut song = start;
     let mut machine = Machine {

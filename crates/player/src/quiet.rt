@@ -3,7 +3,7 @@ ghost use Rattle.std.specs.Prelude.{◌≡◌, ◌≤◌};
 ghost use Rattle.reader.specs.File.{lent};
 ghost use Rattle.reader.specs.Judge.{verdict};
 ghost use Rattle.reader.specs.Layouts.{LegalLayout};
-ghost use Rattle.player.specs.Quiet.{voiceCause};
+ghost use Rattle.player.specs.Quiet.{voice_cause};
 
 use reader::Layout;
 use voice::Voice;
@@ -13,7 +13,7 @@ pub fn voice_cause(layout: Layout, file: &[u8], voice: Voice) -> Cause
     requires layout { LegalLayout layout }
     requires judged { (verdict (lent layout file.now)).number ≡ 0 }
     requires known { voice.sample ≤ layout.samples }
-    ensures { result ≡ voiceCause (lent layout file.now) voice }
+    ensures { result ≡ voice_cause (lent layout file.now) voice }
 {
     let extents = reader::samples::extents(layout, file);
     let k = voice.sample as usize;

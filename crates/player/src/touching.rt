@@ -1,9 +1,9 @@
 // Touches of an accepted module's song, from a legal state: one, and as many as are handed over at once.
 ghost use Rattle.std.specs.Prelude.{◌≡◌, ◌≤◌, max, not, ◌&&◌, length, ◌==◌};
 ghost use Rattle.common.specs.Answers.{outcome};
-ghost use Rattle.player.specs.Touch.{ageOf};
-ghost use Rattle.player.specs.Burst.{takenFrom};
-ghost use Rattle.player.specs.Touching.{touchFrom, burstFrom};
+ghost use Rattle.player.specs.Touch.{age_of};
+ghost use Rattle.player.specs.Burst.{taken_from};
+ghost use Rattle.player.specs.Touching.{touch_from, burst_from};
 
 use crate::{Reply, State};
 
@@ -14,14 +14,14 @@ const OLDEST: u32 = 25;
 const MOST_TOUCHES: usize = 64;
 
 fn age(clock: u32, made: u32) -> u32
-    ensures { result ≡ ageOf clock made }
+    ensures { result ≡ age_of clock made }
 {
     std::num::wrapping_sub_u32(clock, made)
 }
 
 // A touch: from another page, too old, past the song, or taken.
 pub fn touch_from(positions: u32, state: State, page: u32, made: u32, position: u32) -> Reply
-    ensures { result ≡ touchFrom positions state page made position }
+    ensures { result ≡ touch_from positions state page made position }
 {
     if page != state.song.desk.page {
         return crate::refuse(16, 0, state);
@@ -66,7 +66,7 @@ fn take_touches(
 ) -> Reply
     requires equal { (length pages.now ≡ length mades.now) × (length mades.now ≡ length positions.now) }
     requires room { length pages.now ≤ length answers.old }
-    ensures { outcome result answers.new ≡ takenFrom (touchFrom last) (record { pages = pages.entry.now; mades = mades.now; positions = positions.now }) state answers.old }
+    ensures { outcome result answers.new ≡ taken_from (touch_from last) (record { pages = pages.entry.now; mades = mades.now; positions = positions.now }) state answers.old }
 {
     let n = pages.len();
     let mut after = state;
@@ -89,7 +89,7 @@ pub fn burst_from(
     positions: &[u32],
     answers: &mut [u32],
 ) -> Reply
-    ensures { outcome result answers.new ≡ burstFrom last state (record { pages = pages.entry.now; mades = mades.now; positions = positions.now }) answers.old }
+    ensures { outcome result answers.new ≡ burst_from last state (record { pages = pages.entry.now; mades = mades.now; positions = positions.now }) answers.old }
 {
     let most = longest(pages.len(), mades.len(), positions.len());
     if most > MOST_TOUCHES {

@@ -13,8 +13,8 @@ use Rattle.reader.specs.Halves.{has}
 
 -- ---- two numbers joined
 -- a mask keeps of two numbers joined what it keeps of each
-and-or : (x y m : ℕ) → bit_and (bit_or x y) m ≡ bit_or (bit_and x m) (bit_and y m)
-and-or = bin_ind (λ (n : ℕ). (y m : ℕ) → bit_and (bit_or n y) m ≡ bit_or (bit_and n m) (bit_and y m)) (λ y m. refl) again
+and_or : (x y m : ℕ) → bit_and (bit_or x y) m ≡ bit_or (bit_and x m) (bit_and y m)
+and_or = bin_ind (λ (n : ℕ). (y m : ℕ) → bit_and (bit_or n y) m ≡ bit_or (bit_and n m) (bit_and y m)) (λ y m. refl) again
   where
     again : (n : ℕ) → ((y m : ℕ) → bit_and (bit_or (n / 2) y) m ≡ bit_or (bit_and (n / 2) m) (bit_and y m)) → (y m : ℕ) → bit_and (bit_or n y) m ≡ bit_or (bit_and n m) (bit_and y m)
     again n ih y m =
@@ -41,17 +41,17 @@ not-zero n a b f g = go (eqb a 0) refl (eqb b 0) refl
     go true p false q = ap not (ne_eqb n 0 (λ (e : n ≡ 0). eqb-false b 0 q (f e).1))
     go false p t q = ap not (ne_eqb n 0 (λ (e : n ≡ 0). eqb-false a 0 p (f e).0))
 
-pub or-not-zero : (a b : ℕ) → not (eqb (bit_or a b) 0) ≡ not (eqb a 0) || not (eqb b 0)
-or-not-zero a b = not-zero (bit_or a b) a b (λ (e : bit_or a b ≡ 0). (omega (arith, or_add_and a b, and_le_r a b), omega (arith, or_add_and a b, and_le_l a b))) (λ (p : a ≡ 0) (q : b ≡ 0). omega (arith, or_add_and a b))
+pub or_not_zero : (a b : ℕ) → not (eqb (bit_or a b) 0) ≡ not (eqb a 0) || not (eqb b 0)
+or_not_zero a b = not-zero (bit_or a b) a b (λ (e : bit_or a b ≡ 0). (omega (arith, or_add_and a b, and_le_r a b), omega (arith, or_add_and a b, and_le_l a b))) (λ (p : a ≡ 0) (q : b ≡ 0). omega (arith, or_add_and a b))
 
-pub has-or : (m x y : ℕ) → has m (bit_or x y) ≡ has m x || has m y
+pub has_or : (m x y : ℕ) → has m (bit_or x y) ≡ has m x || has m y
 unfolding has
-has-or m x y = ap (λ (n : ℕ). not (eqb n 0)) (and-or x y m) ∙ or-not-zero (bit_and x m) (bit_and y m)
+has_or m x y = ap (λ (n : ℕ). not (eqb n 0)) (and_or x y m) ∙ or_not_zero (bit_and x m) (bit_and y m)
 
 -- ---- a number of two halves: those of each half
-pub has-halves : (a b x y : ℕ) → b < 65536 → y < 65536 → has (a * 65536 + b) (x * 65536 + y) ≡ has a x || has b y
+pub has_halves : (a b x y : ℕ) → b < 65536 → y < 65536 → has (a * 65536 + b) (x * 65536 + y) ≡ has a x || has b y
 unfolding has
-has-halves a b x y h k = ap (λ (n : ℕ). not (eqb n 0)) (and_block 16 x a y b k h) ∙ not-zero (bit_and x a * 65536 + bit_and y b) (bit_and x a) (bit_and y b) (λ (e : bit_and x a * 65536 + bit_and y b ≡ 0). (omega arith, omega arith)) (λ (p : bit_and x a ≡ 0) (q : bit_and y b ≡ 0). omega arith)
+has_halves a b x y h k = ap (λ (n : ℕ). not (eqb n 0)) (and_block 16 x a y b k h) ∙ not-zero (bit_and x a * 65536 + bit_and y b) (bit_and x a) (bit_and y b) (λ (e : bit_and x a * 65536 + bit_and y b ≡ 0). (omega arith, omega arith)) (λ (p : bit_and x a ≡ 0) (q : bit_and y b ≡ 0). omega arith)
 
 -- a mask that keeps the lowest bits of each half
 pub low_bits : (w k : ℕ) → 2 ^ k - 1 < 65536 → bit_and w ((2 ^ k - 1) * 65536 + (2 ^ k - 1)) ≡ w / 65536 % 2 ^ k * 65536 + w % 65536 % 2 ^ k

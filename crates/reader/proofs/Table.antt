@@ -8,12 +8,12 @@ use native.Mathlib.Omega.{arith}
 use lib.Dec.{ltb}
 use lib.ListN.{length}
 use borrow.Author.Tests.{lt-ltb, le-ltb}
-use Rattle.laws.specs.Search.{some_below, some-above}
+use Rattle.laws.specs.Search.{some_below, some_above}
 use Rattle.common.specs.Answers.{refusing, refused, accepted}
-use Rattle.reader.specs.File.{sampleCount, volumePlace, loopStartPlace, cells_in, sampleBehind, samplePlace, Module, lent, entries, cellPlace, patternsOf}
+use Rattle.reader.specs.File.{sample_count, volume_place, loop_start_place, cells_in, sample_behind, sample_place, Module, lent, entries, cell_place, patterns_of}
 use Rattle.common.specs.Limits.{rows}
 use Rattle.common.specs.declared.Answer.{Answer}
-use Rattle.reader.specs.Judge.{tagged, badLength, badEntry, badVolume, badLoop, badCell, cellLines, rest_lines, badNumberAt, verdict}
+use Rattle.reader.specs.Judge.{tagged, bad_length, bad_entry, bad_volume, bad_loop, bad_cell, cell_lines, rest_lines, bad_number_at, verdict}
 use Rattle.reader.specs.declared.Layout.{Layout}
 use Rattle.laws.specs.Ranges.{some, first}
 
@@ -21,88 +21,88 @@ module _ (layout : Layout) (bytes : List ℕ) where
   abbrev m : Module
   m = lent layout bytes
 
-  pub refused-1 : length m.bytes < m.layout.patterns → (x : Answer) → x ≡ refused 1 (length m.bytes) → x ≡ verdict m
+  pub refused_1 : length m.bytes < m.layout.patterns → (x : Answer) → x ≡ refused 1 (length m.bytes) → x ≡ verdict m
   unfolding verdict refusing
-  refused-1 h x z = z ∙ rw (lt-ltb (length m.bytes) m.layout.patterns h)
+  refused_1 h x z = z ∙ rw (lt-ltb (length m.bytes) m.layout.patterns h)
 
   module _ (long : m.layout.patterns ≤ length m.bytes) (t : Bool) (te : t ≡ tagged m) where
     p1 : ltb (length m.bytes) m.layout.patterns ≡ false
     p1 = le-ltb (length m.bytes) m.layout.patterns long
 
-    pub refused-2 : not t ≡ true → (x : Answer) → x ≡ refused 2 m.layout.tag → x ≡ verdict m
+    pub refused_2 : not t ≡ true → (x : Answer) → x ≡ refused 2 m.layout.tag → x ≡ verdict m
     unfolding verdict refusing
-    refused-2 h x z = z ∙ rw (p1, ← te, h)
+    refused_2 h x z = z ∙ rw (p1, ← te, h)
 
-    module _ (tq : not t ≡ false) (l : Bool) (le : l ≡ badLength m) where
+    module _ (tq : not t ≡ false) (l : Bool) (le : l ≡ bad_length m) where
       p2 : not (tagged m) ≡ false
       p2 = ap not (sym te) ∙ tq
 
-      pub refused-3 : l ≡ true → (x : Answer) → x ≡ refused 3 m.layout.song → x ≡ verdict m
+      pub refused_3 : l ≡ true → (x : Answer) → x ≡ refused 3 m.layout.song → x ≡ verdict m
       unfolding verdict refusing
-      refused-3 h x z = z ∙ rw (p1, p2, ← le, h)
+      refused_3 h x z = z ∙ rw (p1, p2, ← le, h)
 
-      module _ (lq : l ≡ false) (e : ℕ) (ee : e ≡ first (badEntry m) entries) where
-        p3 : badLength m ≡ false
+      module _ (lq : l ≡ false) (e : ℕ) (ee : e ≡ first (bad_entry m) entries) where
+        p3 : bad_length m ≡ false
         p3 = sym le ∙ lq
 
-        pub refused-4 : e < entries → (x : Answer) → x ≡ refused 4 (m.layout.table + e) → x ≡ verdict m
+        pub refused_4 : e < entries → (x : Answer) → x ≡ refused 4 (m.layout.table + e) → x ≡ verdict m
         unfolding verdict refusing
-        refused-4 h x z = z ∙ rw (p1, p2, p3, some_below (badEntry m) entries e ee h, ← ee)
+        refused_4 h x z = z ∙ rw (p1, p2, p3, some_below (bad_entry m) entries e ee h, ← ee)
 
-        module _ (eq : entries ≤ e) (v : ℕ) (ve : v ≡ first (badVolume m) (sampleCount m)) where
-          p4 : some (badEntry m) entries ≡ false
-          p4 = some-above (badEntry m) entries e ee eq
+        module _ (eq : entries ≤ e) (v : ℕ) (ve : v ≡ first (bad_volume m) (sample_count m)) where
+          p4 : some (bad_entry m) entries ≡ false
+          p4 = some_above (bad_entry m) entries e ee eq
 
-          pub refused-5 : v < sampleCount m → (x : Answer) → x ≡ refused 5 (volumePlace v) → x ≡ verdict m
+          pub refused_5 : v < sample_count m → (x : Answer) → x ≡ refused 5 (volume_place v) → x ≡ verdict m
           unfolding verdict refusing
-          refused-5 h x z = z ∙ rw (p1, p2, p3, p4, some_below (badVolume m) (sampleCount m) v ve h, ← ve)
+          refused_5 h x z = z ∙ rw (p1, p2, p3, p4, some_below (bad_volume m) (sample_count m) v ve h, ← ve)
 
-          module _ (vq : sampleCount m ≤ v) (o : ℕ) (oe : o ≡ first (badLoop m) (sampleCount m)) where
-            p5 : some (badVolume m) (sampleCount m) ≡ false
-            p5 = some-above (badVolume m) (sampleCount m) v ve vq
+          module _ (vq : sample_count m ≤ v) (o : ℕ) (oe : o ≡ first (bad_loop m) (sample_count m)) where
+            p5 : some (bad_volume m) (sample_count m) ≡ false
+            p5 = some_above (bad_volume m) (sample_count m) v ve vq
 
-            pub refused-6 : o < sampleCount m → (x : Answer) → x ≡ refused 6 (loopStartPlace o) → x ≡ verdict m
+            pub refused_6 : o < sample_count m → (x : Answer) → x ≡ refused 6 (loop_start_place o) → x ≡ verdict m
             unfolding verdict refusing
-            refused-6 h x z = z ∙ rw (p1, p2, p3, p4, p5, some_below (badLoop m) (sampleCount m) o oe h, ← oe)
+            refused_6 h x z = z ∙ rw (p1, p2, p3, p4, p5, some_below (bad_loop m) (sample_count m) o oe h, ← oe)
 
-            pub refused-rest : sampleCount m ≤ o → (r : Answer) → r ≡ refusing refused (accepted 0) (rest_lines m) → r ≡ verdict m
+            pub refused_rest : sample_count m ≤ o → (r : Answer) → r ≡ refusing refused (accepted 0) (rest_lines m) → r ≡ verdict m
             unfolding verdict refusing
-            refused-rest h r q = rw (p1, p2, p3, p4, p5, some-above (badLoop m) (sampleCount m) o oe h) q
+            refused_rest h r q = rw (p1, p2, p3, p4, p5, some_above (bad_loop m) (sample_count m) o oe h) q
 
-module _ (layout : Layout) (bytes : List ℕ) (n s : ℕ) (ne : n ≡ patternsOf (lent layout bytes)) (se : s ≡ sampleBehind (lent layout bytes) n layout.samples) where
+module _ (layout : Layout) (bytes : List ℕ) (n s : ℕ) (ne : n ≡ patterns_of (lent layout bytes)) (se : s ≡ sample_behind (lent layout bytes) n layout.samples) where
   abbrev k : Module
   k = lent layout bytes
 
-  room : s ≡ samplePlace k (sampleCount k)
-  unfolding samplePlace
+  room : s ≡ sample_place k (sample_count k)
+  unfolding sample_place
   room = rw (← ne) se
 
-  pub refused-7 : length k.bytes < s → (x : Answer) → x ≡ refused 7 (length k.bytes) → x ≡ refusing refused (accepted 0) (rest_lines k)
+  pub refused_7 : length k.bytes < s → (x : Answer) → x ≡ refused 7 (length k.bytes) → x ≡ refusing refused (accepted 0) (rest_lines k)
   unfolding refusing rest_lines
-  refused-7 h x z = z ∙ rw (lt-ltb (length k.bytes) (samplePlace k (sampleCount k)) (omega (arith, room)))
+  refused_7 h x z = z ∙ rw (lt-ltb (length k.bytes) (sample_place k (sample_count k)) (omega (arith, room)))
 
-  pub refused-cells : (all : ℕ) → all ≡ cells_in k.layout (rows * n) → s ≤ length k.bytes → (r : Answer) → r ≡ refusing refused (accepted 0) (cellLines k all) → r ≡ refusing refused (accepted 0) (rest_lines k)
+  pub refused_cells : (all : ℕ) → all ≡ cells_in k.layout (rows * n) → s ≤ length k.bytes → (r : Answer) → r ≡ refusing refused (accepted 0) (cell_lines k all) → r ≡ refusing refused (accepted 0) (rest_lines k)
   unfolding refusing rest_lines
-  refused-cells all ae h r q = rw (le-ltb (length k.bytes) (samplePlace k (sampleCount k)) (omega (arith, room)), ← ne, ← ae) q
+  refused_cells all ae h r q = rw (le-ltb (length k.bytes) (sample_place k (sample_count k)) (omega (arith, room)), ← ne, ← ae) q
 
-  pub refused-clean : (all : ℕ) → all ≡ cells_in k.layout (rows * n) → s ≤ length k.bytes → (b : Bool) → b ≡ some (badCell k) all → b ≡ false → (x : Answer) → x ≡ accepted 0 → x ≡ refusing refused (accepted 0) (rest_lines k)
-  unfolding refusing rest_lines cellLines
-  refused-clean all ae h b be q x z = z ∙ rw (le-ltb (length k.bytes) (samplePlace k (sampleCount k)) (omega (arith, room)), ← ne, ← ae, ← be, q)
+  pub refused_clean : (all : ℕ) → all ≡ cells_in k.layout (rows * n) → s ≤ length k.bytes → (b : Bool) → b ≡ some (bad_cell k) all → b ≡ false → (x : Answer) → x ≡ accepted 0 → x ≡ refusing refused (accepted 0) (rest_lines k)
+  unfolding refusing rest_lines cell_lines
+  refused_clean all ae h b be q x z = z ∙ rw (le-ltb (length k.bytes) (sample_place k (sample_count k)) (omega (arith, room)), ← ne, ← ae, ← be, q)
 
 -- ---- of n cells, the first that was found
-module _ (layout : Layout) (bytes : List ℕ) (n i : ℕ) (ie : i ≡ first (badCell (lent layout bytes)) n) where
+module _ (layout : Layout) (bytes : List ℕ) (n i : ℕ) (ie : i ≡ first (bad_cell (lent layout bytes)) n) where
   abbrev o : Module
   o = lent layout bytes
 
-  pub refused_none : n ≤ i → (x : Answer) → x ≡ accepted 0 → x ≡ refusing refused (accepted 0) (cellLines o n)
-  unfolding refusing cellLines
-  refused_none h x z = z ∙ rw (some-above (badCell o) n i ie h)
+  pub refused_none : n ≤ i → (x : Answer) → x ≡ accepted 0 → x ≡ refusing refused (accepted 0) (cell_lines o n)
+  unfolding refusing cell_lines
+  refused_none h x z = z ∙ rw (some_above (bad_cell o) n i ie h)
 
-  module _ (l : i < n) (r : Bool) (re : r ≡ badNumberAt o (cellPlace o.layout i)) where
-    pub refused-8 : r ≡ true → (x : Answer) → x ≡ refused 8 (cellPlace o.layout i) → x ≡ refusing refused (accepted 0) (cellLines o n)
-    unfolding refusing cellLines
-    refused-8 q x z = z ∙ rw (some_below (badCell o) n i ie l, ← ie, ← re, q)
+  module _ (l : i < n) (r : Bool) (re : r ≡ bad_number_at o (cell_place o.layout i)) where
+    pub refused_8 : r ≡ true → (x : Answer) → x ≡ refused 8 (cell_place o.layout i) → x ≡ refusing refused (accepted 0) (cell_lines o n)
+    unfolding refusing cell_lines
+    refused_8 q x z = z ∙ rw (some_below (bad_cell o) n i ie l, ← ie, ← re, q)
 
-    pub refused-9 : r ≡ false → (x : Answer) → x ≡ refused 9 (cellPlace o.layout i) → x ≡ refusing refused (accepted 0) (cellLines o n)
-    unfolding refusing cellLines
-    refused-9 q x z = z ∙ rw (some_below (badCell o) n i ie l, ← ie, ← re, q)
+    pub refused_9 : r ≡ false → (x : Answer) → x ≡ refused 9 (cell_place o.layout i) → x ≡ refusing refused (accepted 0) (cell_lines o n)
+    unfolding refusing cell_lines
+    refused_9 q x z = z ∙ rw (some_below (bad_cell o) n i ie l, ← ie, ← re, q)

@@ -2,14 +2,14 @@
 -- Assumes nothing.
 use Rattle.std.specs.Prelude.{ℕ, suc, ◌+◌, ◌≤◌, ◌≡◌}
 use Rattle.reader.specs.File.{Module}
-use Rattle.reader.specs.Samples.{extentOf, Sample, sampleIn}
+use Rattle.reader.specs.Samples.{extent_of, Sample, sample_in}
 use Rattle.reader.specs.declared.Extent.{Extent}
 
 -- sample number k + 1, which is at most 65,535 words long
 pub record Placed (m : Module) (k : ℕ) (x : Extent) : Type 0 where
-  pub is : x ≡ extentOf m (suc k)
+  pub is : x ≡ extent_of m (suc k)
   pub short : x.to ≤ x.from + 131070
 
 -- the sample of a number, by its own extent
-unfoldable pub sampleOf : Module → ℕ → Sample
-sampleOf m k = sampleIn m (extentOf m k)
+unfoldable pub sample_of : Module → ℕ → Sample
+sample_of m k = sample_in m (extent_of m k)

@@ -1,10 +1,10 @@
 // The cells of all patterns: refusals 8 and 9.
 ghost use Rattle.std.specs.Prelude.{◌≡◌, ◌+◌, ◌*◌, ◌/◌, ◌%◌, ◌≤◌, ◌<◌, length};
-ghost use Rattle.common.specs.Limits.{greatestCellPeriod};
+ghost use Rattle.common.specs.Limits.{greatest_cell_period};
 ghost use Rattle.laws.specs.Ranges.{some, first};
 ghost use Rattle.reader.specs.Layouts.{LegalLayout};
 ghost use Rattle.reader.specs.File.{lent};
-ghost use Rattle.reader.specs.Judge.{badAt, badCell, badNumberAt};
+ghost use Rattle.reader.specs.Judge.{bad_at, bad_cell, bad_number_at};
 
 use crate::offsets::CELL_BYTES;
 use crate::{Layout, halves};
@@ -14,7 +14,7 @@ use common::limits::{GREATEST_CELL_PERIOD, LEAST_CELL_PERIOD};
 pub fn is_bad_number(layout: Layout, file: &[u8], at: usize) -> bool
     requires legal_layout { LegalLayout layout }
     requires at_in_bounds { at + 3 < length file.now }
-    ensures { result ≡ badNumberAt (lent layout file.now) at }
+    ensures { result ≡ bad_number_at (lent layout file.now) at }
 {
     common::bytes::wide(file[at]) > layout.samples
 }
@@ -24,7 +24,7 @@ pub fn is_bad_number(layout: Layout, file: &[u8], at: usize) -> bool
 fn seen(layout: Layout, both: u32) -> u32
     requires legal_layout { LegalLayout layout }
     requires both_bound { both < 65536 }
-    ensures { (layout.samples < both / 256 → greatestCellPeriod < result) × (both / 256 ≤ layout.samples → result ≡ both % 4096) }
+    ensures { (layout.samples < both / 256 → greatest_cell_period < result) × (both / 256 ≤ layout.samples → result ≡ both % 4096) }
 {
     if layout.samples < 16 {
         return both;
@@ -36,7 +36,7 @@ fn seen(layout: Layout, both: u32) -> u32
 fn is_bad(layout: Layout, file: &[u8], at: usize) -> bool
     requires legal_layout { LegalLayout layout }
     requires at_in_bounds { at + 3 < length file.now }
-    ensures { result ≡ badAt (lent layout file.now) at }
+    ensures { result ≡ bad_at (lent layout file.now) at }
 {
     let x = seen(layout, common::bytes::pair(file[at], file[at + 1]));
     (x != 0) & ((x < LEAST_CELL_PERIOD) | (x > GREATEST_CELL_PERIOD))
@@ -47,7 +47,7 @@ fn is_bad(layout: Layout, file: &[u8], at: usize) -> bool
 pub fn some_bad(layout: Layout, file: &[u8], n: usize) -> bool
     requires legal_layout { LegalLayout layout }
     requires n_in_bounds { layout.patterns + 4 * n ≤ length file.now }
-    ensures { result ≡ some (badCell (lent layout file.now)) n }
+    ensures { result ≡ some (bad_cell (lent layout file.now)) n }
 {
     let half = n / 2;
     let rest = n - half;
@@ -69,7 +69,7 @@ pub fn some_bad(layout: Layout, file: &[u8], n: usize) -> bool
 pub fn first_bad(layout: Layout, file: &[u8], n: usize) -> usize
     requires legal_layout { LegalLayout layout }
     requires n_in_bounds { layout.patterns + 4 * n ≤ length file.now }
-    ensures { result ≡ first (badCell (lent layout file.now)) n }
+    ensures { result ≡ first (bad_cell (lent layout file.now)) n }
 {
     let mut i = 0;
     while i < n {

@@ -1,6 +1,6 @@
 // Two cells at once, as the halves of a number of 32 bits: what the scan over all cells is made of.
 ghost use Rattle.std.specs.Prelude.{◌≡◌, ◌+◌, ◌/◌, ◌%◌, ◌<◌, length};
-ghost use Rattle.reader.specs.Halves.{has, firstTwo, lowPeriod, badPeriods, markBits, upperHalves, seenBad};
+ghost use Rattle.reader.specs.Halves.{has, first_two, low_period, bad_periods, mark_bits, upper_halves, seen_bad};
 
 use crate::Layout;
 use common::bytes::wide32;
@@ -36,14 +36,14 @@ const FROM_LEAST: u32 = (TOP - LEAST_CELL_PERIOD) * BOTH;
 // A cell's first two bytes, the first one low: both are read at once.
 pub fn first_two(file: &[u8], at: usize) -> u32
     requires { at + 1 < length file.now }
-    ensures { (result ≡ firstTwo file.now at) × (result < 65536) }
+    ensures { (result ≡ first_two file.now at) × (result < 65536) }
 {
     wide32(file[at]) + wide32(file[at + 1]) * 256
 }
 
 // The lower ten bits of each half's period.
 fn periods(both: u32) -> u32
-    ensures result_value { (result / 65536 ≡ lowPeriod (both / 65536)) × (result % 65536 ≡ lowPeriod (both % 65536)) }
+    ensures result_value { (result / 65536 ≡ low_period (both / 65536)) × (result % 65536 ≡ low_period (both % 65536)) }
     ensures fits { (result / 65536 < 1024) × (result % 65536 < 1024) }
 {
     (both & LOW_TWO_BITS) * 256 + (both / 256 & LOW_BYTE)
@@ -51,7 +51,7 @@ fn periods(both: u32) -> u32
 
 // The bit of MARKS is set in each half whose period is bad; other bits say nothing.
 pub fn marks(both: u32) -> u32
-    ensures { has markBits result ≡ badPeriods both }
+    ensures { has mark_bits result ≡ bad_periods both }
 {
     let p = periods(both);
     (p + ABOVE_GREATEST) | ((p + ABOVE_0) ^ (p + FROM_LEAST))
@@ -59,7 +59,7 @@ pub fn marks(both: u32) -> u32
 
 // A file has 15 samples or 31.
 fn upper(layout: Layout) -> u32
-    ensures { result ≡ upperHalves layout.samples }
+    ensures { result ≡ upper_halves layout.samples }
 {
     if layout.samples < 16 {
         return UPPER_OF_15;
@@ -69,7 +69,7 @@ fn upper(layout: Layout) -> u32
 
 // Whether one of the cells whose bytes and marks were joined is bad.
 pub fn is_seen_bad(layout: Layout, bytes: u32, marks: u32) -> bool
-    ensures { result ≡ seenBad layout.samples bytes marks }
+    ensures { result ≡ seen_bad layout.samples bytes marks }
 {
     let seen = (bytes & upper(layout)) | (marks & MARKS);
     seen != 0

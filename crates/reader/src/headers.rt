@@ -2,8 +2,8 @@
 ghost use Rattle.std.specs.Prelude.{◌≡◌, ◌+◌, ◌*◌, ◌≤◌, ◌<◌, max, length};
 ghost use Rattle.laws.specs.Ranges.{first, largest};
 ghost use Rattle.reader.specs.Layouts.{LegalLayout};
-ghost use Rattle.reader.specs.File.{lent, entries, entry_of, patternsOf};
-ghost use Rattle.reader.specs.Judge.{tagged, badLength, badEntry, badVolume, badLoop};
+ghost use Rattle.reader.specs.File.{lent, entries, entry_of, patterns_of};
+ghost use Rattle.reader.specs.Judge.{tagged, bad_length, bad_entry, bad_volume, bad_loop};
 
 use crate::Layout;
 use crate::offsets::{
@@ -26,7 +26,7 @@ pub fn is_tagged(layout: Layout, file: &[u8]) -> bool
 pub fn is_bad_length(layout: Layout, file: &[u8]) -> bool
     requires legal_layout { LegalLayout layout }
     requires patterns_in_bounds { layout.patterns ≤ length file.now }
-    ensures { result ≡ badLength (lent layout file.now) }
+    ensures { result ≡ bad_length (lent layout file.now) }
 {
     let at = layout.song;
     if file[at] == 0 {
@@ -39,7 +39,7 @@ pub fn is_bad_length(layout: Layout, file: &[u8]) -> bool
 pub fn first_bad_entry(layout: Layout, file: &[u8]) -> usize
     requires legal_layout { LegalLayout layout }
     requires patterns_in_bounds { layout.patterns ≤ length file.now }
-    ensures { result ≡ first (badEntry (lent layout file.now)) entries }
+    ensures { result ≡ first (bad_entry (lent layout file.now)) entries }
 {
     let mut i = 0;
     while i < ENTRIES {
@@ -79,7 +79,7 @@ fn largest_entry(layout: Layout, file: &[u8]) -> u8
 pub fn pattern_count(layout: Layout, file: &[u8]) -> usize
     requires legal_layout { LegalLayout layout }
     requires patterns_in_bounds { layout.patterns ≤ length file.now }
-    ensures { (result ≡ patternsOf (lent layout file.now)) × (result < 257) }
+    ensures { (result ≡ patterns_of (lent layout file.now)) × (result < 257) }
 {
     common::bytes::wide(largest_entry(layout, file)) + 1
 }
@@ -88,7 +88,7 @@ pub fn pattern_count(layout: Layout, file: &[u8]) -> usize
 pub fn first_bad_volume(layout: Layout, file: &[u8]) -> usize
     requires legal_layout { LegalLayout layout }
     requires patterns_in_bounds { layout.patterns ≤ length file.now }
-    ensures { result ≡ first (badVolume (lent layout file.now)) layout.samples }
+    ensures { result ≡ first (bad_volume (lent layout file.now)) layout.samples }
 {
     let mut k = 0;
     while k < layout.samples {
@@ -103,7 +103,7 @@ pub fn first_bad_volume(layout: Layout, file: &[u8]) -> usize
 fn is_bad_loop(layout: Layout, file: &[u8], k: usize) -> bool
     requires legal_layout { LegalLayout layout }
     requires patterns_in_bounds { (layout.patterns ≤ length file.now) × (k < layout.samples) }
-    ensures { result ≡ badLoop (lent layout file.now) k }
+    ensures { result ≡ bad_loop (lent layout file.now) k }
 {
     let header = HEADERS_AT + HEADER_BYTES * k;
     let again = common::bytes::word(file, header + LOOP_LENGTH_AT);
@@ -118,7 +118,7 @@ fn is_bad_loop(layout: Layout, file: &[u8], k: usize) -> bool
 pub fn first_bad_loop(layout: Layout, file: &[u8]) -> usize
     requires legal_layout { LegalLayout layout }
     requires patterns_in_bounds { layout.patterns ≤ length file.now }
-    ensures { result ≡ first (badLoop (lent layout file.now)) layout.samples }
+    ensures { result ≡ first (bad_loop (lent layout file.now)) layout.samples }
 {
     let mut k = 0;
     while k < layout.samples {

@@ -2,7 +2,7 @@
 ghost use Rattle.std.specs.Prelude.{◌≡◌, ◌+◌, ◌*◌, ◌≤◌, length};
 ghost use Rattle.common.specs.Answers.{refused, accepted, refusing};
 ghost use Rattle.reader.specs.File.{lent};
-ghost use Rattle.reader.specs.Judge.{cellLines, rest_lines, verdict, judgeOf};
+ghost use Rattle.reader.specs.Judge.{cell_lines, rest_lines, verdict, judge_of};
 ghost use Rattle.reader.specs.Layouts.{LegalLayout};
 
 use common::limits::ROWS;
@@ -50,7 +50,7 @@ pub struct Extent {
 fn judge_cells(layout: Layout, file: &[u8], n: usize) -> Answer
     requires legal_layout { LegalLayout layout }
     requires n_in_bounds { layout.patterns + 4 * n ≤ length file.now }
-    ensures { result ≡ refusing refused (accepted 0) (cellLines (lent layout file.now) n) }
+    ensures { result ≡ refusing refused (accepted 0) (cell_lines (lent layout file.now) n) }
 {
     let i = cells::first_bad(layout, file, n);
     if i < n {
@@ -111,7 +111,7 @@ pub fn judge_by(layout: Layout, file: &[u8]) -> Answer
 
 // Whether the bytes are a module: the first refusal of the table, with its place.
 pub fn judge(file: &[u8]) -> Answer
-    ensures { result ≡ judgeOf file.now }
+    ensures { result ≡ judge_of file.now }
 {
     judge_by(offsets::layout_of(file), file)
 }

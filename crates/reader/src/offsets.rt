@@ -1,8 +1,8 @@
 // The file's layout: sample headers of 30 bytes, the song length, the table, the tag, the patterns, the samples.
 ghost use Rattle.std.specs.Prelude.{◌≡◌, ◌*◌, ◌≤◌, ◌<◌};
 ghost use Rattle.common.specs.Limits.{width};
-ghost use Rattle.common.specs.Bytes.{fourAt};
-ghost use Rattle.reader.specs.File.{channelsOf, tagPlace, layout_of, cells_in};
+ghost use Rattle.common.specs.Bytes.{four_at};
+ghost use Rattle.reader.specs.File.{channels_of, tag_place, layout_of, cells_in};
 ghost use Rattle.reader.specs.Layouts.{LegalLayout};
 
 use crate::Layout;
@@ -43,7 +43,7 @@ const TAG_PLACE: usize = 1080;
 
 // The number that the tag's four bytes spell, each 0 past the end.
 fn tag_of(file: &[u8]) -> u32
-    ensures { result ≡ fourAt file.now tagPlace }
+    ensures { result ≡ four_at file.now tag_place }
 {
     let a = byte(file, TAG_PLACE);
     let b = byte(file, TAG_PLACE + 1);
@@ -54,7 +54,7 @@ fn tag_of(file: &[u8]) -> u32
 
 // How many channels a tag names, 0 for any other than the four.
 fn channels_of(tag: u32) -> usize
-    ensures { result ≡ channelsOf tag }
+    ensures { result ≡ channels_of tag }
 {
     if (tag == TAG_MK) | (tag == TAG_4CHN) {
         return 4;

@@ -2,9 +2,9 @@
 ghost use Rattle.std.specs.Prelude.{◌≡◌, ◌+◌, ◌*◌, ◌≤◌, ◌<◌, length};
 ghost use Rattle.laws.specs.Ranges.{total};
 ghost use Rattle.reader.specs.Layouts.{LegalLayout};
-ghost use Rattle.reader.specs.File.{lent, sampleWords, sampleBehind, samplePlace};
+ghost use Rattle.reader.specs.File.{lent, sample_words, sample_behind, sample_place};
 ghost use Rattle.reader.specs.Judge.{verdict};
-ghost use Rattle.reader.specs.Samples.{extentsOf};
+ghost use Rattle.reader.specs.Samples.{extents_of};
 ghost use Rattle.reader.specs.Extents.{Placed};
 
 use crate::offsets::{
@@ -17,7 +17,7 @@ use common::limits::{ROWS, SAMPLE_NUMBERS};
 fn words(layout: Layout, file: &[u8], k: usize) -> usize
     requires legal_layout { LegalLayout layout }
     requires patterns_in_bounds { (layout.patterns ≤ length file.now) × (k ≤ layout.samples) }
-    ensures { (result ≡ total (sampleWords file.now) k) × (result ≤ 65535 * k) }
+    ensures { (result ≡ total (sample_words file.now) k) × (result ≤ 65535 * k) }
 {
     let mut sum = 0;
     let mut i = 0;
@@ -32,7 +32,7 @@ fn words(layout: Layout, file: &[u8], k: usize) -> usize
 pub fn sample_behind(layout: Layout, file: &[u8], n: usize, k: usize) -> usize
     requires legal_layout { LegalLayout layout }
     requires patterns_in_bounds { (layout.patterns ≤ length file.now) × ((n < 257) × (k ≤ layout.samples)) }
-    ensures { (result ≡ sampleBehind (lent layout file.now) n k) × (result ≤ 530000 + 131070 * k) }
+    ensures { (result ≡ sample_behind (lent layout file.now) n k) × (result ≤ 530000 + 131070 * k) }
 {
     layout.patterns
         + CELL_BYTES * crate::offsets::cells_in(layout, ROWS * n)
@@ -43,7 +43,7 @@ pub fn sample_behind(layout: Layout, file: &[u8], n: usize, k: usize) -> usize
 fn extent(layout: Layout, file: &[u8], from: usize, k: usize) -> Extent
     requires legal_layout { LegalLayout layout }
     requires patterns_in_bounds { (layout.patterns ≤ length file.now) × (k < layout.samples) }
-    requires from_value { (from ≡ samplePlace (lent layout file.now) k) × (from < 9000000) }
+    requires from_value { (from ≡ sample_place (lent layout file.now) k) × (from < 9000000) }
     ensures { Placed (lent layout file.now) k result }
 {
     let header = HEADERS_AT + HEADER_BYTES * k;
@@ -72,7 +72,7 @@ fn extent(layout: Layout, file: &[u8], from: usize, k: usize) -> Extent
 pub fn extents(layout: Layout, file: &[u8]) -> [Extent; SAMPLE_NUMBERS]
     requires legal_layout { LegalLayout layout }
     requires file_value { (verdict (lent layout file.now)).number ≡ 0 }
-    ensures { result ≡ extentsOf (lent layout file.now) }
+    ensures { result ≡ extents_of (lent layout file.now) }
 {
     let none = Extent {
         from: 0,

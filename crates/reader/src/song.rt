@@ -1,9 +1,9 @@
 // What the sequencer reads of a file: the song length, a cell, a sample's header volume and finetune.
 ghost use Rattle.std.specs.Prelude.{◌≡◌, ◌+◌, ◌-◌, ◌*◌, ◌<◌, ◌^◌};
-ghost use Rattle.reader.specs.File.{lent, songLength, headerFinetune, headerVolume};
+ghost use Rattle.reader.specs.File.{lent, song_length, header_finetune, header_volume};
 ghost use Rattle.reader.specs.Judge.{verdict};
 ghost use Rattle.common.specs.ByteLaws.{Bytes};
-ghost use Rattle.reader.specs.Cells.{effect_of, cell_of, cellFrom, rowOffset};
+ghost use Rattle.reader.specs.Cells.{effect_of, cell_of, cell_from, row_offset};
 ghost use Rattle.common.specs.Limits.{width};
 ghost use Rattle.reader.specs.Layouts.{LegalLayout};
 
@@ -16,7 +16,7 @@ use common::limits::ROWS;
 pub fn song_length(layout: Layout, file: &[u8]) -> u32
     requires legal_layout { LegalLayout layout }
     requires file_value { (verdict (lent layout file.now)).number ≡ 0 }
-    ensures value { result ≡ songLength (lent layout file.now) }
+    ensures value { result ≡ song_length (lent layout file.now) }
     ensures bytes { Bytes file.now }
 {
     let at = layout.song;
@@ -48,7 +48,7 @@ fn cell_of(b0: u32, b1: u32, b2: u32, b3: u32) -> Cell
 // The cell at a place. One test serves its four bytes where all are in the file.
 fn cell_from(file: &[u8], at: usize) -> Cell
     requires { at + 3 < 2 ^ 63 }
-    ensures cell { result ≡ cellFrom file.now at }
+    ensures cell { result ≡ cell_from file.now at }
     ensures param { result.param < 256 }
 {
     if at + 3 < file.len() {
@@ -70,7 +70,7 @@ fn cell_from(file: &[u8], at: usize) -> Cell
 // Where the cells of a position's row begin, each from 0.
 pub fn row_at(layout: Layout, file: &[u8], position: u32, row: u32) -> usize
     requires { LegalLayout layout }
-    ensures place { result ≡ rowOffset (lent layout file.now) position row }
+    ensures place { result ≡ row_offset (lent layout file.now) position row }
     ensures low { result < 2 ^ 62 }
 {
     let entry = byte(file, layout.table + position as usize);
@@ -81,7 +81,7 @@ pub fn row_at(layout: Layout, file: &[u8], position: u32, row: u32) -> usize
 // The cell of a channel, from 0, in the row that begins at a place.
 pub fn cell_in(file: &[u8], row: usize, channel: usize) -> Cell
     requires { (row < 2 ^ 62) × (channel < width) }
-    ensures cell { result ≡ cellFrom file.now (row + 4 * channel) }
+    ensures cell { result ≡ cell_from file.now (row + 4 * channel) }
     ensures param { result.param < 256 }
 {
     cell_from(file, row + CELL_BYTES * channel)
@@ -90,7 +90,7 @@ pub fn cell_in(file: &[u8], row: usize, channel: usize) -> Cell
 // The volume of the header of sample number k, from 1.
 pub fn header_volume(file: &[u8], k: u32) -> u32
     requires { 0 < k }
-    ensures { result ≡ headerVolume file.now (k - 1) }
+    ensures { result ≡ header_volume file.now (k - 1) }
 {
     byte(
         file,
@@ -101,7 +101,7 @@ pub fn header_volume(file: &[u8], k: u32) -> u32
 // The finetune of the header of sample number k, from 1: 0 to 15, 8 to 15 meaning -8 to -1.
 pub fn header_finetune(file: &[u8], k: u32) -> u32
     requires { 0 < k }
-    ensures { result ≡ headerFinetune file.now (k - 1) }
+    ensures { result ≡ header_finetune file.now (k - 1) }
 {
     byte(
         file,

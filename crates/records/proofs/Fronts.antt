@@ -7,61 +7,61 @@ use native.Mathlib.Omega.{arith}
 use native.Mathlib.Nat.{zero-add}
 use lib.ListN.{length, take, drop, set, length-take, length-set}
 use lib.Seq.{sets, sets-eq, length-sets}
-use Rattle.common.specs.Bytes.{fourBytes}
+use Rattle.common.specs.Bytes.{four_bytes}
 use Rattle.ticks.specs.declared.Command.{Command}
 use Rattle.ticks.specs.declared.Tick.{Tick}
 use Rattle.ticks.specs.Play.{over}
-use Rattle.records.specs.Format.{versionPlace, channelsPlace, countPlace, recordsPlace, headBytes, tempoPlace, version, countByte, mask, channelsBytes, recordBytes, streamHeader}
-use Rattle.records.specs.Marked.{markedBytes, marked-mask}
+use Rattle.records.specs.Format.{version_place, channels_place, count_place, records_place, head_bytes, tempo_place, version, count_byte, mask, channels_bytes, record_bytes, stream_header}
+use Rattle.records.specs.Marked.{marked_bytes, marked_mask}
 
 front : (xs room : List ℕ) → length xs ≤ length room → sets room 0 xs ≡ over xs room
 front xs room h = sets-eq xs room 0 (omega arith) ∙ ap (λ (k : ℕ). xs ++ drop k room) (zero-add (length xs))
 
 -- ---- stores keep the room's length
-pub record_same : (room room' xs : List ℕ) (m v : ℕ) → room' ≡ sets (set (set room 0 m) tempoPlace v) headBytes xs → length room' ≡ length room
+pub record_same : (room room' xs : List ℕ) (m v : ℕ) → room' ≡ sets (set (set room 0 m) tempo_place v) head_bytes xs → length room' ≡ length room
 record_same room room' xs m v e = rw e (simp (length-sets, length-set))
 
-pub header-same : (room room₁ room' xs ys : List ℕ) (v c : ℕ) → room₁ ≡ sets room 0 xs → room' ≡ sets (set (set room₁ versionPlace v) channelsPlace c) (countPlace + 1) ys → length room' ≡ length room
-header-same room room₁ room' xs ys v c e q = rw (q, e) (simp (length-sets, length-set))
+pub header_same : (room room₁ room' xs ys : List ℕ) (v c : ℕ) → room₁ ≡ sets room 0 xs → room' ≡ sets (set (set room₁ version_place v) channels_place c) (count_place + 1) ys → length room' ≡ length room
+header_same room room₁ room' xs ys v c e q = rw (q, e) (simp (length-sets, length-set))
 
 -- ---- a record
 module _ (c : ℕ) (registers : List Command) (t : Tick) where
-  pub record-long : (n : ℕ) → n ≡ length (channelsBytes (take c registers) t.commands) → headBytes + n ≡ length (recordBytes c registers t)
-  unfolding recordBytes
-  record-long n e = omega arith
+  pub record_long : (n : ℕ) → n ≡ length (channels_bytes (take c registers) t.commands) → head_bytes + n ≡ length (record_bytes c registers t)
+  unfolding record_bytes
+  record_long n e = omega arith
 
-  module _ (room : List ℕ) (h : length (recordBytes c registers t) ≤ length room) where
-    pub record-first : 0 < length room
-    record-first = omega (arith, record-long _ refl)
+  module _ (room : List ℕ) (h : length (record_bytes c registers t) ≤ length room) where
+    pub record_first : 0 < length room
+    record_first = omega (arith, record_long _ refl)
 
-    pub record-second : (m : ℕ) → tempoPlace < length (set room 0 m)
-    record-second m = simp length-set (omega (arith, record-long _ refl))
+    pub record_second : (m : ℕ) → tempo_place < length (set room 0 m)
+    record_second m = simp length-set (omega (arith, record_long _ refl))
 
   -- by its mask
   module _ (k m : ℕ) (few : c ≤ k) (all : length registers ≡ k) (e : m ≡ mask (take c registers) t.commands) where
-    by_mask : markedBytes m (take c t.commands) ≡ channelsBytes (take c registers) t.commands
+    by_mask : marked_bytes m (take c t.commands) ≡ channels_bytes (take c registers) t.commands
     by_mask =
         let n : length (take c registers) ≡ c = omega (arith, length-take c registers) in
-        rw e (subst (λ (i : ℕ). markedBytes (mask (take c registers) t.commands) (take i t.commands) ≡ channelsBytes (take c registers) t.commands) n (marked-mask (take c registers) t.commands))
+        rw e (subst (λ (i : ℕ). marked_bytes (mask (take c registers) t.commands) (take i t.commands) ≡ channels_bytes (take c registers) t.commands) n (marked_mask (take c registers) t.commands))
 
-    pub record-next : (n : ℕ) → n ≡ headBytes + length (markedBytes m (take c t.commands)) → n ≡ length (recordBytes c registers t)
-    record-next n q = q ∙ record-long (length (markedBytes m (take c t.commands))) (ap length by_mask)
+    pub record_next : (n : ℕ) → n ≡ head_bytes + length (marked_bytes m (take c t.commands)) → n ≡ length (record_bytes c registers t)
+    record_next n q = q ∙ record_long (length (marked_bytes m (take c t.commands))) (ap length by_mask)
 
-    module _ (room : List ℕ) (h : length (recordBytes c registers t) ≤ length room) where
-      pub record-rest : (v : ℕ) → headBytes + length (markedBytes m (take c t.commands)) ≤ length (set (set room 0 m) tempoPlace v)
-      record-rest v = simp length-set (omega (arith, record-next _ refl))
+    module _ (room : List ℕ) (h : length (record_bytes c registers t) ≤ length room) where
+      pub record_rest : (v : ℕ) → head_bytes + length (marked_bytes m (take c t.commands)) ≤ length (set (set room 0 m) tempo_place v)
+      record_rest v = simp length-set (omega (arith, record_next _ refl))
 
-      pub record-done : (room' : List ℕ) → room' ≡ sets (set (set room 0 m) tempoPlace t.tempo) headBytes (markedBytes m (take c t.commands)) → room' ≡ over (recordBytes c registers t) room
-      record-done room' o = o ∙ rw (by_mask, e) (unfold recordBytes in front (recordBytes c registers t) room h)
+      pub record_done : (room' : List ℕ) → room' ≡ sets (set (set room 0 m) tempo_place t.tempo) head_bytes (marked_bytes m (take c t.commands)) → room' ≡ over (record_bytes c registers t) room
+      record_done room' o = o ∙ rw (by_mask, e) (unfold record_bytes in front (record_bytes c registers t) room h)
 
 -- ---- a header
-module _ (c follow count : ℕ) (room room₁ : List ℕ) (h : recordsPlace ≤ length room) (e : room₁ ≡ sets room 0 (fourBytes follow)) where
-  pub header-second : (v : ℕ) → channelsPlace < length (set room₁ versionPlace v)
-  header-second v = simp (length-set, e, length-sets) (omega arith)
+module _ (c follow count : ℕ) (room room₁ : List ℕ) (h : records_place ≤ length room) (e : room₁ ≡ sets room 0 (four_bytes follow)) where
+  pub header_second : (v : ℕ) → channels_place < length (set room₁ version_place v)
+  header_second v = simp (length-set, e, length-sets) (omega arith)
 
-  pub header-rest : (v : ℕ) → countPlace + 1 + 4 ≤ length (set (set room₁ versionPlace v) channelsPlace c)
-  header-rest v = simp (length-set, e, length-sets) h
+  pub header_rest : (v : ℕ) → count_place + 1 + 4 ≤ length (set (set room₁ version_place v) channels_place c)
+  header_rest v = simp (length-set, e, length-sets) h
 
-  pub header-done : (room' : List ℕ) → room' ≡ sets (set (set room₁ versionPlace version) channelsPlace c) (countPlace + 1) (fourBytes count) → room' ≡ over (streamHeader version c follow count) room
-  unfolding streamHeader countByte fourBytes
-  header-done room' o = o ∙ rw e (front (streamHeader version c follow count) room h)
+  pub header_done : (room' : List ℕ) → room' ≡ sets (set (set room₁ version_place version) channels_place c) (count_place + 1) (four_bytes count) → room' ≡ over (stream_header version c follow count) room
+  unfolding stream_header count_byte four_bytes
+  header_done room' o = o ∙ rw e (front (stream_header version c follow count) room h)

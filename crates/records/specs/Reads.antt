@@ -4,15 +4,15 @@ use Rattle.std.specs.Prelude.{ℕ, ◌≡◌, refl, Bool, true, false, cond, Lis
 use Rattle.std.proofs.Common.{sym, ap, ◌∙◌, true≢false, arith}
 use Rattle.std.proofs.lemmas.Bool.{false≢true}
 use Rattle.ticks.specs.declared.Tick.{Tick}
-use Rattle.records.specs.Format.{Read, bad, short, read, read_by, Decoded, refusal, ticks, withTick}
+use Rattle.records.specs.Format.{Read, bad, short, read, read_by, Decoded, refusal, ticks, with_tick}
 
 -- ---- a reading
 -- what holds of all cases of reading on holds of it
-pub by-any : {A B : Type 0} (P : B → Type 0) (x y : B) (r : Read A) (rest : A → ℕ → B) → (r ≡ bad → P x) → (r ≡ short → P y) → ((z : A) (n : ℕ) → r ≡ read z n → P (rest z n)) → P (read_by x y r rest)
+pub by_any : {A B : Type 0} (P : B → Type 0) (x y : B) (r : Read A) (rest : A → ℕ → B) → (r ≡ bad → P x) → (r ≡ short → P y) → ((z : A) (n : ℕ) → r ≡ read z n → P (rest z n)) → P (read_by x y r rest)
 unfolding read_by
-by-any P x y bad rest f g h = f refl
-by-any P x y short rest f g h = g refl
-by-any P x y (read z n) rest f g h = h z n refl
+by_any P x y bad rest f g h = f refl
+by_any P x y short rest f g h = g refl
+by_any P x y (read z n) rest f g h = h z n refl
 
 -- it came to v: something was read, and the rest came to v
 pub record Went {A B : Type 0} (r : Read A) (rest : A → ℕ → B) (v : B) : Type 0 where
@@ -21,26 +21,26 @@ pub record Went {A B : Type 0} (r : Read A) (rest : A → ℕ → B) (v : B) : T
   pub is : r ≡ read got next
   pub on : rest got next ≡ v
 
-pub by-good : {A B : Type 0} (x y : B) (r : Read A) (rest : A → ℕ → B) (v : B) → (x ≡ v → ⊥) → (y ≡ v → ⊥) → read_by x y r rest ≡ v → Went r rest v
-by-good {A} {B} x y r rest v n m =
-    by-any (λ (w : B). w ≡ v → Went r rest v) x y r rest (λ q e. absurd (n e)) (λ q e. absurd (m e)) (λ z k q e. record { got = z; next = k; is = q; on = e })
+pub by_good : {A B : Type 0} (x y : B) (r : Read A) (rest : A → ℕ → B) (v : B) → (x ≡ v → ⊥) → (y ≡ v → ⊥) → read_by x y r rest ≡ v → Went r rest v
+by_good {A} {B} x y r rest v n m =
+    by_any (λ (w : B). w ≡ v → Went r rest v) x y r rest (λ q e. absurd (n e)) (λ q e. absurd (m e)) (λ z k q e. record { got = z; next = k; is = q; on = e })
 
 pub not-read : {A : Type 0} (x : A) (n : ℕ) → bad ≡ read x n → ⊥
 not-read x n e = let z : ◌≡◌ {A = ℕ} 0 1 = cc in omega arith
 
-pub short-not-read : {A : Type 0} (x : A) (n : ℕ) → short ≡ read x n → ⊥
-short-not-read x n e = let z : ◌≡◌ {A = ℕ} 0 1 = cc in omega arith
+pub short_not_read : {A : Type 0} (x : A) (n : ℕ) → short ≡ read x n → ⊥
+short_not_read x n e = let z : ◌≡◌ {A = ℕ} 0 1 = cc in omega arith
 
 -- reading on where a bad one stays bad, and one that runs out stays so
-pub then-good : {A B : Type 0} (r : Read A) (rest : A → ℕ → Read B) (v : B) (k : ℕ) → read_by bad short r rest ≡ read v k → Went r rest (read v k)
-then-good r rest v k = by-good bad short r rest (read v k) (not-read v k) (short-not-read v k)
+pub then_good : {A B : Type 0} (r : Read A) (rest : A → ℕ → Read B) (v : B) (k : ℕ) → read_by bad short r rest ≡ read v k → Went r rest (read v k)
+then_good r rest v k = by_good bad short r rest (read v k) (not-read v k) (short_not_read v k)
 
 -- and where there is something instead of both
-pub on-good : {A B : Type 0} (instead : B) (r : Read A) (rest : A → ℕ → B) (v : B) → (instead ≡ v → ⊥) → read_by instead instead r rest ≡ v → Went r rest v
-on-good instead r rest v n = by-good instead instead r rest v n n
+pub on_good : {A B : Type 0} (instead : B) (r : Read A) (rest : A → ℕ → B) (v : B) → (instead ≡ v → ⊥) → read_by instead instead r rest ≡ v → Went r rest v
+on_good instead r rest v n = by_good instead instead r rest v n n
 
-pub on-either : {A B : Type 0} (P : B → Type 0) (instead : B) (r : Read A) (rest : A → ℕ → B) → P instead → ((x : A) (n : ℕ) → r ≡ read x n → P (rest x n)) → P (read_by instead instead r rest)
-on-either P instead r rest f g = by-any P instead instead r rest (λ q. f) (λ q. f) g
+pub on_either : {A B : Type 0} (P : B → Type 0) (instead : B) (r : Read A) (rest : A → ℕ → B) → P instead → ((x : A) (n : ℕ) → r ≡ read x n → P (rest x n)) → P (read_by instead instead r rest)
+on_either P instead r rest f g = by_any P instead instead r rest (λ q. f) (λ q. f) g
 
 -- ---- a test
 -- it came to what it would not have come to otherwise
@@ -62,20 +62,20 @@ pub record Followed (t : Tick) (d : Decoded) (ts : List Tick) : Type 0 where
   pub is : d ≡ ticks others
   pub all : ts ≡ t ∷ others
 
-pub with-ticks : (t : Tick) (d : Decoded) (ts : List Tick) → withTick t d ≡ ticks ts → Followed t d ts
-unfolding withTick
-with-ticks t (refusal number place) ts e = absurd (not-ticks number place ts e)
-with-ticks t (ticks us) ts e = record { others = us; is = refl; all = cc }
+pub with_ticks : (t : Tick) (d : Decoded) (ts : List Tick) → with_tick t d ≡ ticks ts → Followed t d ts
+unfolding with_tick
+with_ticks t (refusal number place) ts e = absurd (not-ticks number place ts e)
+with_ticks t (ticks us) ts e = record { others = us; is = refl; all = cc }
 
 -- ---- a reading as a struct with two flags, of which a good one sets the first, and one that runs out the second
 module _ {A S : Type 0} (ok out : S → Bool) (x y : S) (made : A → ℕ → S) (r : Read A) (s : S) (e : s ≡ read_by x y r made) where
-  pub flag-read : ok x ≡ false → ok y ≡ false → ok s ≡ true → Went r made s
-  flag-read n m t = by-good x y r made s (λ q. false≢true (sym n ∙ ap ok q ∙ t)) (λ q. false≢true (sym m ∙ ap ok q ∙ t)) (sym e)
+  pub flag_read : ok x ≡ false → ok y ≡ false → ok s ≡ true → Went r made s
+  flag_read n m t = by_good x y r made s (λ q. false≢true (sym n ∙ ap ok q ∙ t)) (λ q. false≢true (sym m ∙ ap ok q ∙ t)) (sym e)
 
-  pub flag-short : out x ≡ false → ((z : A) (n : ℕ) → ok (made z n) ≡ true) → ok s ≡ false → out s ≡ true → r ≡ short
-  flag-short n g t u =
-      by-any (λ (w : S). s ≡ w → r ≡ short) x y r made (λ q p. absurd (true≢false (sym u ∙ ap out p ∙ n))) (λ q p. q) (λ z k q p. absurd (true≢false (sym (g z k) ∙ ap ok (sym p) ∙ t))) e
+  pub flag_short : out x ≡ false → ((z : A) (n : ℕ) → ok (made z n) ≡ true) → ok s ≡ false → out s ≡ true → r ≡ short
+  flag_short n g t u =
+      by_any (λ (w : S). s ≡ w → r ≡ short) x y r made (λ q p. absurd (true≢false (sym u ∙ ap out p ∙ n))) (λ q p. q) (λ z k q p. absurd (true≢false (sym (g z k) ∙ ap ok (sym p) ∙ t))) e
 
-  pub flag-bad : out y ≡ true → ((z : A) (n : ℕ) → ok (made z n) ≡ true) → ok s ≡ false → out s ≡ false → r ≡ bad
-  flag-bad n g t u =
-      by-any (λ (w : S). s ≡ w → r ≡ bad) x y r made (λ q p. q) (λ q p. absurd (true≢false (sym n ∙ ap out (sym p) ∙ u))) (λ z k q p. absurd (true≢false (sym (g z k) ∙ ap ok (sym p) ∙ t))) e
+  pub flag_bad : out y ≡ true → ((z : A) (n : ℕ) → ok (made z n) ≡ true) → ok s ≡ false → out s ≡ false → r ≡ bad
+  flag_bad n g t u =
+      by_any (λ (w : S). s ≡ w → r ≡ bad) x y r made (λ q p. q) (λ q p. absurd (true≢false (sym n ∙ ap out (sym p) ∙ u))) (λ z k q p. absurd (true≢false (sym (g z k) ∙ ap ok (sym p) ∙ t))) e

@@ -7,8 +7,8 @@ ghost use Rattle.common.specs.Bytes.{bit};
 ghost use Rattle.ticks.specs.Legal.{Spellable};
 ghost use Rattle.ticks.specs.Play.{over};
 ghost use Rattle.records.specs.LegalLaws.{AllSpellable, SpellableTick};
-ghost use Rattle.records.specs.Format.{recordsPlace, headBytes, bodyBytes, version, atFirst, changed, mask, commandBytes, channelBytes, channelsBytes, recordBytes, streamHeader};
-ghost use Rattle.records.specs.Marked.{bitBytes, markedBytes};
+ghost use Rattle.records.specs.Format.{records_place, head_bytes, body_bytes, version, at_first, changed, mask, command_bytes, channel_bytes, channels_bytes, record_bytes, stream_header};
+ghost use Rattle.records.specs.Marked.{bit_bytes, marked_bytes};
 
 use common::bytes::{bit_of, put_four};
 use common::limits::WIDTH;
@@ -48,7 +48,7 @@ pub const START_PLACE: usize = 4;
 
 // The registers at first.
 pub fn at_first() -> [Command; WIDTH]
-    ensures { result ≡ atFirst }
+    ensures { result ≡ at_first }
 {
     let none = Command {
         sample: 0,
@@ -91,7 +91,7 @@ fn mask(channels: usize, registers: [Command; WIDTH], commands: [Command; WIDTH]
 
 // How many bytes a channel adds to a record.
 fn channel_len(r: Command, c: Command) -> usize
-    ensures { (result ≡ length (channelBytes r c)) × (result ≤ bodyBytes) }
+    ensures { (result ≡ length (channel_bytes r c)) × (result ≤ body_bytes) }
 {
     if is_changed(r, c) {
         return BODY_BYTES;
@@ -102,7 +102,7 @@ fn channel_len(r: Command, c: Command) -> usize
 // How many bytes all channels add to a record.
 fn channels_len(channels: usize, registers: [Command; WIDTH], commands: [Command; WIDTH]) -> usize
     requires { channels ≤ width }
-    ensures { (result ≡ length (channelsBytes (take channels registers) commands)) × (result ≤ bodyBytes * width) }
+    ensures { (result ≡ length (channels_bytes (take channels registers) commands)) × (result ≤ body_bytes * width) }
 {
     let mut n = 0;
     let mut k = 0;
@@ -116,7 +116,7 @@ fn channels_len(channels: usize, registers: [Command; WIDTH], commands: [Command
 // How many bytes a tick's record has.
 pub fn record_len(channels: usize, registers: [Command; WIDTH], tick: Tick) -> usize
     requires { channels ≤ width }
-    ensures { (result ≡ length (recordBytes channels registers tick)) × (result ≤ headBytes + bodyBytes * width) }
+    ensures { (result ≡ length (record_bytes channels registers tick)) × (result ≤ head_bytes + body_bytes * width) }
 {
     let commands = tick.commands;
     HEAD_BYTES + channels_len(channels, registers, commands)
@@ -125,8 +125,8 @@ pub fn record_len(channels: usize, registers: [Command; WIDTH], tick: Tick) -> u
 // Writes a command's bytes at a place.
 fn put_command(c: Command, at: usize, room: &mut [u8])
     requires small { Spellable c }
-    requires fits { at + bodyBytes ≤ length room.old }
-    ensures { room.new ≡ sets room.old at (commandBytes c) }
+    requires fits { at + body_bytes ≤ length room.old }
+    ensures { room.new ≡ sets room.old at (command_bytes c) }
 {
     room[at] = c.sample;
     room[at + 1] = c.volume;
@@ -139,9 +139,9 @@ fn put_command(c: Command, at: usize, room: &mut [u8])
 // Writes what a channel whose bit is the lowest of m adds to a record, at a place, and returns the place after it.
 fn put_channel(m: u8, c: Command, at: usize, room: &mut [u8]) -> usize
     requires small { Spellable c }
-    requires fits { at + length (bitBytes m c) ≤ length room.old }
-    ensures next { result ≡ at + length (bitBytes m c) }
-    ensures written { room.new ≡ sets room.old at (bitBytes m c) }
+    requires fits { at + length (bit_bytes m c) ≤ length room.old }
+    ensures next { result ≡ at + length (bit_bytes m c) }
+    ensures written { room.new ≡ sets room.old at (bit_bytes m c) }
 {
     if m % 2 == 0 {
         return at;
@@ -160,9 +160,9 @@ fn put_channels(
 ) -> usize
     requires few { channels ≤ width }
     requires small { AllSpellable channels commands }
-    requires fits { at + length (markedBytes mask (take channels commands)) ≤ length room.old }
-    ensures next { result ≡ at + length (markedBytes mask (take channels commands)) }
-    ensures written { room.new ≡ sets room.old at (markedBytes mask (take channels commands)) }
+    requires fits { at + length (marked_bytes mask (take channels commands)) ≤ length room.old }
+    ensures next { result ≡ at + length (marked_bytes mask (take channels commands)) }
+    ensures written { room.new ≡ sets room.old at (marked_bytes mask (take channels commands)) }
 {
     let mut p = at;
     let mut m = mask;
@@ -184,9 +184,9 @@ pub fn put_record(
 ) -> usize
     requires few { channels ≤ width }
     requires small { SpellableTick channels tick }
-    requires fits { length (recordBytes channels registers tick) ≤ length room.old }
-    ensures long { result ≡ length (recordBytes channels registers tick) }
-    ensures written { room.new ≡ over (recordBytes channels registers tick) room.old }
+    requires fits { length (record_bytes channels registers tick) ≤ length room.old }
+    ensures long { result ≡ length (record_bytes channels registers tick) }
+    ensures written { room.new ≡ over (record_bytes channels registers tick) room.old }
 {
     let commands = tick.commands;
     let m = mask(channels, registers, commands);
@@ -198,8 +198,8 @@ pub fn put_record(
 // Writes a stream's header at the front of the room: how many bytes follow its first four, how many channels and how many ticks it has.
 pub fn put_header(channels: usize, follow: usize, count: usize, room: &mut [u8])
     requires few { channels ≤ width }
-    requires fits { recordsPlace ≤ length room.old }
-    ensures { room.new ≡ over (streamHeader version channels follow count) room.old }
+    requires fits { records_place ≤ length room.old }
+    ensures { room.new ≡ over (stream_header version channels follow count) room.old }
 {
     put_four(follow, 0, room);
     room[VERSION_PLACE] = VERSION;

@@ -6,13 +6,13 @@ use Rattle.common.specs.declared.Answer.{Answer}
 use Rattle.floats.specs.declared.Pair.{Pair}
 
 -- the record in cells
-abbrev pub pairIn : List Float → ℕ → Pair
-pairIn cells tick = record { left = get_or cells 0 nan; right = get_or cells 1 nan; tick = tick }
+abbrev pub pair_in : List Float → ℕ → Pair
+pair_in cells tick = record { left = get_or cells 0 nan; right = get_or cells 1 nan; tick = tick }
 
 -- the record's two floats after the call; on a refusal both cells stay
-unfoldable pub pairAfter : Answer → Pair → List Float → List Float
-pairAfter a pair cells = cond (eqb a.number 0) (pair.left ∷ pair.right ∷ []) cells
+unfoldable pub pair_after : Answer → Pair → List Float → List Float
+pair_after a pair cells = cond (eqb a.number 0) (pair.left ∷ pair.right ∷ []) cells
 
 -- and its tick
-unfoldable pub pairTickAfter : Answer → Pair → ℕ → ℕ
-pairTickAfter a pair tick = cond (eqb a.number 0) pair.tick tick
+unfoldable pub pair_tick_after : Answer → Pair → ℕ → ℕ
+pair_tick_after a pair tick = cond (eqb a.number 0) pair.tick tick

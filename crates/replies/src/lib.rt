@@ -1,8 +1,8 @@
 // What the C calls leave in the cells that they are lent: an answer's, a state's, and those of the record of the last left and right.
 ghost use Rattle.std.specs.Prelude.{◌≡◌};
-ghost use Rattle.player.specs.Quiet.{whyAnswer};
-ghost use Rattle.replies.specs.Answers.{answerCells, cellsAfter};
-ghost use Rattle.replies.specs.Pairs.{pairIn, pairAfter, pairTickAfter};
+ghost use Rattle.player.specs.Quiet.{why_answer};
+ghost use Rattle.replies.specs.Answers.{answer_cells, cells_after};
+ghost use Rattle.replies.specs.Pairs.{pair_in, pair_after, pair_tick_after};
 
 use cells::CELLS;
 use common::Answer;
@@ -16,15 +16,15 @@ pub const ANSWER_CELLS: usize = 3;
 pub const PAIR_CELLS: usize = 2;
 
 pub fn put_answer(a: Answer, answer: &mut [u64; ANSWER_CELLS])
-    ensures { answer.new ≡ answerCells a }
+    ensures { answer.new ≡ answer_cells a }
 {
     *answer = [a.number as u64, a.place as u64, a.count as u64];
 }
 
 // A refusal writes the answer alone.
 pub fn put_reply(reply: Reply, state: &mut [u32; CELLS], answer: &mut [u64; ANSWER_CELLS])
-    ensures answered { answer.new ≡ answerCells reply.answer }
-    ensures stated { state.new ≡ cellsAfter reply state.old }
+    ensures answered { answer.new ≡ answer_cells reply.answer }
+    ensures stated { state.new ≡ cells_after reply state.old }
 {
     put_answer(reply.answer, answer);
     if reply.answer.number != 0 {
@@ -36,7 +36,7 @@ pub fn put_reply(reply: Reply, state: &mut [u32; CELLS], answer: &mut [u64; ANSW
 
 // The record of the last left and right in cells.
 pub fn pair_of(cells: [f32; PAIR_CELLS], tick: u32) -> Pair
-    ensures { result ≡ pairIn cells tick }
+    ensures { result ≡ pair_in cells tick }
 {
     Pair {
         left: cells[0],
@@ -47,8 +47,8 @@ pub fn pair_of(cells: [f32; PAIR_CELLS], tick: u32) -> Pair
 
 // A refusal leaves the record's cells.
 pub fn put_pair(a: Answer, last: Pair, pair: &mut [f32; PAIR_CELLS], tick: &mut u32)
-    ensures paired { pair.new ≡ pairAfter a last pair.old }
-    ensures ticked { tick.new ≡ pairTickAfter a last tick.old }
+    ensures paired { pair.new ≡ pair_after a last pair.old }
+    ensures ticked { tick.new ≡ pair_tick_after a last tick.old }
 {
     if a.number != 0 {
         return;
@@ -59,7 +59,7 @@ pub fn put_pair(a: Answer, last: Pair, pair: &mut [f32; PAIR_CELLS], tick: &mut 
 
 // The count is the cause's number.
 pub fn why_answer(why: Why) -> Answer
-    ensures { result ≡ whyAnswer why }
+    ensures { result ≡ why_answer why }
 {
     match why {
         Why::Refused(a) => a,

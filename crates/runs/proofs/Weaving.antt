@@ -12,14 +12,14 @@ use lib.Signed.{mag}
 use mir.Syntax.{w16}
 use mir.Val.{SFits}
 use mir.ValLaws.{to_z-of_z}
-use Rattle.laws.specs.Signed.{mag-add, reads_as, fits-as, sfits-below, back}
-use Rattle.laws.specs.Each.{Parting, within-begin, part-again}
+use Rattle.laws.specs.Signed.{mag-add, reads_as, fits-as, sfits_below, back}
+use Rattle.laws.specs.Each.{Parting, within_begin, part_again}
 use Rattle.runs.specs.Lines.{half16}
 use Rattle.runs.specs.Cells.{stride, number_at, Narrow, sum_at, Roomy, Holds, Woven}
-use Rattle.runs.specs.CellLaws.{woven-none}
+use Rattle.runs.specs.CellLaws.{woven_none}
 
 back_is : (x : ℤ) → mag x < half16 → back x ≡ x
-back_is x h = to_z-of_z w16 x (sfits-below w16 h tt)
+back_is x h = to_z-of_z w16 x (sfits_below w16 h tt)
 
 -- ---- a number added to another
 module _ (x y : ℤ) {b : ℕ} (h : mag x + b < half16) (k : mag y < b) where
@@ -27,7 +27,7 @@ module _ (x y : ℤ) {b : ℕ} (h : mag x + b < half16) (k : mag y < b) where
   read = ap₂ ◌+ℤ◌ (back_is x (omega arith)) (back_is y (omega arith))
 
   small : SFits w16 (x +ℤ y)
-  small = let l : mag (x +ℤ y) < half16 = omega (arith, mag-add x y {a = mag x + 1} {b = b} (omega arith) k) in sfits-below w16 l tt
+  small = let l : mag (x +ℤ y) < half16 = omega (arith, mag-add x y {a = mag x + 1} {b = b} (omega arith) k) in sfits_below w16 l tt
 
   sum_fits : SFits w16 (back x +ℤ back y)
   sum_fits = fits-as w16 read small
@@ -45,23 +45,23 @@ pub record Adding (from : List ℤ) (n : ℕ) (to₀ to : List ℤ) (k : ℕ) : 
   pub cells : Parting (sum_at to₀ from) (number_at to₀) (pos 0) (length to₀) to k
 
 module _ (from : List ℤ) (n : ℕ) (to₀ : List ℤ) where
-  pub adding-none : n ≤ length from → n ≤ length to₀ → length from * 2 < 2 ^ 63 → length to₀ * 2 < 2 ^ 63 → Roomy from to₀ n → Adding from n to₀ to₀ 0
-  adding-none l f w v r = record { count = omega arith; long = l; fits = f; narrow = (w, v); roomy = r; cells = within-begin _ (pos 0) (length to₀) to₀ refl }
+  pub adding_none : n ≤ length from → n ≤ length to₀ → length from * 2 < 2 ^ 63 → length to₀ * 2 < 2 ^ 63 → Roomy from to₀ n → Adding from n to₀ to₀ 0
+  adding_none l f w v r = record { count = omega arith; long = l; fits = f; narrow = (w, v); roomy = r; cells = within_begin _ (pos 0) (length to₀) to₀ refl }
 
   module _ (to : List ℤ) (k : ℕ) (m : Adding from n to₀ to k) where
-    pub adding-long : length to ≡ length to₀
-    adding-long = m.cells.long
+    pub adding_long : length to ≡ length to₀
+    adding_long = m.cells.long
 
     module _ (h : k < n) where
       as_it_was : mag (number_at to k) + m.roomy.bound < half16
       as_it_was = rw (m.cells.rest k (omega arith)) (m.roomy.room k h)
 
-      pub adding-fits : SFits w16 (back (number_at to k) +ℤ back (number_at from k))
-      adding-fits = sum_fits (number_at to k) (number_at from k) as_it_was (m.roomy.small k h)
+      pub adding_fits : SFits w16 (back (number_at to k) +ℤ back (number_at from k))
+      adding_fits = sum_fits (number_at to k) (number_at from k) as_it_was (m.roomy.small k h)
 
-      pub adding-more : Adding from n to₀ (set to k (back (back (number_at to k) +ℤ back (number_at from k)))) (k + 1)
+      pub adding_more : Adding from n to₀ (set to k (back (back (number_at to k) +ℤ back (number_at from k)))) (k + 1)
       unfolding sum_at
-      adding-more =
+      adding_more =
           record {
             count = omega arith;
             long = m.long;
@@ -69,12 +69,12 @@ module _ (from : List ℤ) (n : ℕ) (to₀ : List ℤ) where
             narrow = (m.narrow.0, omega (arith, m.narrow.1, length-set to k (back (back (number_at to k) +ℤ back (number_at from k)))));
             roomy = m.roomy;
             cells =
-                part-again _ (pos 0) (length to₀) to (number_at to₀) k n _ m.cells h (omega (arith, m.fits, m.cells.long))
+                part_again _ (pos 0) (length to₀) to (number_at to₀) k n _ m.cells h (omega (arith, m.fits, m.cells.long))
                 (sum_is (number_at to k) (number_at from k) as_it_was (m.roomy.small k h) ∙ ap (λ x. x +ℤ number_at from k) (m.cells.rest k (omega arith)));
           }
 
-    pub adding-end : n ≤ k → Holds (sum_at to₀ from) n to
-    adding-end h j l = m.cells.done j (omega arith)
+    pub adding_end : n ≤ k → Holds (sum_at to₀ from) n to
+    adding_end h j l = m.cells.done j (omega arith)
 
 -- ---- the first k of n frames are woven
 pub record Weaving (left right : List ℤ) (n at : ℕ) (out₀ out : List ℤ) (k : ℕ) : Type 0 where
@@ -86,20 +86,20 @@ pub record Weaving (left right : List ℤ) (n at : ℕ) (out₀ out : List ℤ) 
   pub woven : Woven (number_at left) (number_at right) at k out₀ out
 
 module _ (left right : List ℤ) (n at : ℕ) (out₀ : List ℤ) where
-  pub weaving-none : n ≤ length left → n ≤ length right → Narrow left n → Narrow right n → stride * (at + n) ≤ length out₀ → length left * 2 < 2 ^ 63 → length right * 2 < 2 ^ 63 → length out₀ * 2 < 2 ^ 63 → Weaving left right n at out₀ out₀ 0
-  weaving-none a b p q f w v u =
+  pub weaving_none : n ≤ length left → n ≤ length right → Narrow left n → Narrow right n → stride * (at + n) ≤ length out₀ → length left * 2 < 2 ^ 63 → length right * 2 < 2 ^ 63 → length out₀ * 2 < 2 ^ 63 → Weaving left right n at out₀ out₀ 0
+  weaving_none a b p q f w v u =
       record {
         count = omega arith;
         long = (a, b);
         numbers = (p, q);
         fits = f;
         narrow = (w, v, u);
-        woven = woven-none _ _ at out₀;
+        woven = woven_none _ _ at out₀;
       }
 
   module _ (out : List ℤ) (k : ℕ) (m : Weaving left right n at out₀ out k) where
-    pub weaving-long : length out ≡ length out₀
-    weaving-long = m.woven.same
+    pub weaving_long : length out ≡ length out₀
+    weaving_long = m.woven.same
 
     module _ (h : k < n) where
       abbrev cell : ℕ
@@ -114,8 +114,8 @@ module _ (left right : List ℤ) (n at : ℕ) (out₀ : List ℤ) where
       same : length new ≡ length out
       same = length-set half (cell + 1) _ ∙ length-set out cell _
 
-      pub second-inside : (x : ℤ) → cell + 1 < length (set out cell x)
-      second-inside x = omega (arith, m.fits, length-set out cell x)
+      pub second_inside : (x : ℤ) → cell + 1 < length (set out cell x)
+      second_inside x = omega (arith, m.fits, length-set out cell x)
 
       -- a cell of another frame
       other : (i : ℕ) → (i ≡ cell → ⊥) → (i ≡ cell + 1 → ⊥) → number_at new i ≡ number_at out i
@@ -125,10 +125,10 @@ module _ (left right : List ℤ) (n at : ℕ) (out₀ : List ℤ) where
       left_is = get_or-set_other half (cell + 1) cell _ (pos 0) (omega arith) ∙ get_or-set_same out cell _ (pos 0) (omega (arith, m.fits)) ∙ back_is (number_at left k) (m.numbers.0 k h)
 
       right_is : number_at new (cell + 1) ≡ number_at right k
-      right_is = get_or-set_same half (cell + 1) _ (pos 0) (second-inside _) ∙ back_is (number_at right k) (m.numbers.1 k h)
+      right_is = get_or-set_same half (cell + 1) _ (pos 0) (second_inside _) ∙ back_is (number_at right k) (m.numbers.1 k h)
 
-      pub weaving-more : Weaving left right n at out₀ new (k + 1)
-      weaving-more =
+      pub weaving_more : Weaving left right n at out₀ new (k + 1)
+      weaving_more =
           record {
             count = omega arith;
             long = m.long;
@@ -145,5 +145,5 @@ module _ (left right : List ℤ) (n at : ℕ) (out₀ : List ℤ) where
                 };
           }
 
-    pub weaving-end : n ≤ k → Woven (number_at left) (number_at right) at n out₀ out
-    weaving-end h = let q : k ≡ n = omega (arith, m.count) in subst (λ i. Woven (number_at left) (number_at right) at i out₀ out) q m.woven
+    pub weaving_end : n ≤ k → Woven (number_at left) (number_at right) at n out₀ out
+    weaving_end h = let q : k ≡ n = omega (arith, m.count) in subst (λ i. Woven (number_at left) (number_at right) at i out₀ out) q m.woven

@@ -14,12 +14,12 @@ pub cleared : (n : ℕ) (old new : List ℤ) → new ≡ replicate n (pos 0) ++ 
 cleared n old new e j h = ap (λ cells. number_at cells j) e ∙ zeros n (drop n old) j h
 
 -- ---- frames woven
-pub woven-none : (l r : ℕ → ℤ) (at : ℕ) (old : List ℤ) → Woven l r at 0 old old
-woven-none l r at old = record { same = refl; left = below_none _; right = below_none _; before = λ i h. refl; after = λ i h. refl }
+pub woven_none : (l r : ℕ → ℤ) (at : ℕ) (old : List ℤ) → Woven l r at 0 old old
+woven_none l r at old = record { same = refl; left = below_none _; right = below_none _; before = λ i h. refl; after = λ i h. refl }
 
 -- by numbers equal one by one
-pub woven-as : (l r l' r' : ℕ → ℤ) (at n : ℕ) (old new : List ℤ) → ((j : ℕ) → j < n → l j ≡ l' j) → ((j : ℕ) → j < n → r j ≡ r' j) → Woven l r at n old new → Woven l' r' at n old new
-woven-as l r l' r' at n old new p q m =
+pub woven_as : (l r l' r' : ℕ → ℤ) (at n : ℕ) (old new : List ℤ) → ((j : ℕ) → j < n → l j ≡ l' j) → ((j : ℕ) → j < n → r j ≡ r' j) → Woven l r at n old new → Woven l' r' at n old new
+woven_as l r l' r' at n old new p q m =
     record {
       same = m.same;
       left = λ j h. m.left j h ∙ p j h;
@@ -42,8 +42,8 @@ module _ (l r l' r' : ℕ → ℤ) (k n : ℕ) (old mid new : List ℤ) (p : (j 
           let cell : stride * (0 + j) + d ≡ stride * (k + (j - k)) + d = omega arith in
           ap (number_at new) cell ∙ y (j - k) (omega arith) ∙ e (j - k) (omega arith) ∙ ap f here
 
-  pub woven-more : Woven l r 0 (k + n) old new
-  woven-more =
+  pub woven_more : Woven l r 0 (k + n) old new
+  woven_more =
       record {
         same = b.same ∙ a.same;
         left = λ j h. ap (number_at new) (plain (stride * (0 + j))) ∙ side l l' 0 (omega arith) (λ i g. ap (number_at mid) (sym (plain (stride * (0 + i)))) ∙ a.left i g) (λ i g. ap (number_at new) (sym (plain (stride * (k + i)))) ∙ b.left i g) p j h;

@@ -17,12 +17,12 @@ abbrev pub dividends : ℕ
 dividends = 134217728
 
 -- the inverse of a divisor, more than exact by at most one
-unfoldable pub inverseOf : ℕ → ℕ
-inverseOf g = unit / g + 1
+unfoldable pub inverse_of : ℕ → ℕ
+inverse_of g = unit / g + 1
 
 -- a byte has at most so many frames
-abbrev pub mostFrames : ℕ
-mostFrames = 16
+abbrev pub most_frames : ℕ
+most_frames = 16
 
 -- a line that grows by this or more leaves a byte after one fill
 abbrev pub quick : ℕ
@@ -33,60 +33,60 @@ unfoldable pub lasting : ℕ → ℕ
 lasting g = cond (ltb g quick) (together + together) together
 
 -- they are enough for all of its frames
-pub lasting-enough : (g : ℕ) → parts ≤ mostFrames * g → parts ≤ lasting g * g
+pub lasting_enough : (g : ℕ) → parts ≤ most_frames * g → parts ≤ lasting g * g
 unfolding lasting
-lasting-enough g h = either (λ (n : ℕ). parts ≤ n * g) (ltb g quick) (together + together) together (λ _. h) (λ e. omega (arith, ltb-false g quick e))
+lasting_enough g h = either (λ (n : ℕ). parts ≤ n * g) (ltb g quick) (together + together) together (λ _. h) (λ e. omega (arith, ltb-false g quick e))
 
 -- i is the inverse of g; a line that grows by g stays in a byte for so many frames at most, and skips none
 pub record Inverse (g i : ℕ) : Type 0 where
-  pub brief : parts ≤ mostFrames * g
+  pub brief : parts ≤ most_frames * g
   pub slow : g < parts
   pub above : unit < i * g
   pub near : i * g ≤ unit + g
 
-pub inverse-is : (g i : ℕ) → parts ≤ mostFrames * g → g < parts → i ≡ inverseOf g → Inverse g i
-unfolding inverseOf
-inverse-is g i l h e =
+pub inverse_is : (g i : ℕ) → parts ≤ most_frames * g → g < parts → i ≡ inverse_of g → Inverse g i
+unfolding inverse_of
+inverse_is g i l h e =
     let z : 0 < g = omega arith in
     rw e (record { brief = l; slow = h; above = omega (arith, b, lt-div-mul-add {a = unit} z); near = omega (arith, b, div-mul-le_self unit g) })
   where
     b : (unit / g + 1) * g ≡ unit / g * g + g
     b = omega (arith, add-mul (unit / g) 1 g, one-mul g)
 
-inverse-low : (g i : ℕ) → Inverse g i → i ≤ 2 ^ 35
-inverse-low g i m = let l : 4096 ≤ g = omega (arith, m.brief) in omega (arith, m.near, m.slow, mul-le-mul_left i l)
+inverse_low : (g i : ℕ) → Inverse g i → i ≤ 2 ^ 35
+inverse_low g i m = let l : 4096 ≤ g = omega (arith, m.brief) in omega (arith, m.near, m.slow, mul-le-mul_left i l)
 
 module _ (g i x : ℕ) (m : Inverse g i) (h : x < dividends) where
-  pub product-low : x * i ≤ 2 ^ 62
-  product-low = omega (arith, mul-le-mul (let a : x ≤ dividends = omega arith in a) (inverse-low g i m))
+  pub product_low : x * i ≤ 2 ^ 62
+  product_low = omega (arith, mul-le-mul (let a : x ≤ dividends = omega arith in a) (inverse_low g i m))
 
-  pub product-fits : Fits w64 (x * i)
-  product-fits = record { fits = omega (arith, product-low) }
+  pub product_fits : Fits w64 (x * i)
+  product_fits = record { fits = omega (arith, product_low) }
 
   -- the product with the inverse, times g, is x units and a little more
-  product-above : x * unit ≤ x * i * g
-  product-above = omega (arith, mul_assoc x i g, mul-le-mul_left x (let a : unit ≤ i * g = omega (arith, m.above) in a))
+  product_above : x * unit ≤ x * i * g
+  product_above = omega (arith, mul_assoc x i g, mul-le-mul_left x (let a : unit ≤ i * g = omega (arith, m.above) in a))
 
-  product-near : x * i * g < x * unit + unit
-  product-near =
+  product_near : x * i * g < x * unit + unit
+  product_near =
       omega (arith, mul_assoc x i g, mul-le-mul_left x m.near, mul-add x unit g, mul-le-mul (let a : x ≤ dividends = omega arith in a) (let b : g ≤ parts = omega (arith, m.slow) in b))
 
-  pub quotient-low : x * i / unit * g ≤ x
-  quotient-low = omega (arith, product-near, mul-le-mul_right g (div-mul-le_self (x * i) unit), mul_right_comm (x * i / unit) unit g)
+  pub quotient_low : x * i / unit * g ≤ x
+  quotient_low = omega (arith, product_near, mul-le-mul_right g (div-mul-le_self (x * i) unit), mul_right_comm (x * i / unit) unit g)
 
-  pub quotient-high : x < x * i / unit * g + g
-  quotient-high =
+  pub quotient_high : x < x * i / unit * g + g
+  quotient_high =
       let z : 0 < unit = omega arith in
-      omega (arith, product-above, mul-lt-mul_of_pos_right (lt-div-mul-add {a = x * i} z) (let p : 0 < g = omega (arith, m.brief) in p), add-mul (x * i / unit * unit) unit g, mul_right_comm (x * i / unit) unit g)
+      omega (arith, product_above, mul-lt-mul_of_pos_right (lt-div-mul-add {a = x * i} z) (let p : 0 < g = omega (arith, m.brief) in p), add-mul (x * i / unit * unit) unit g, mul_right_comm (x * i / unit) unit g)
 
 -- ---- how it is computed
-pub inverse-none : (g : ℕ) → g ≡ 0 → 1 ≡ inverseOf g
-unfolding inverseOf
-inverse-none g e = rw e
+pub inverse_none : (g : ℕ) → g ≡ 0 → 1 ≡ inverse_of g
+unfolding inverse_of
+inverse_none g e = rw e
 
-pub inverse-quotient : (g : ℕ) → unit / g + 1 ≡ inverseOf g
-unfolding inverseOf
-inverse-quotient g = refl
+pub inverse_quotient : (g : ℕ) → unit / g + 1 ≡ inverse_of g
+unfolding inverse_of
+inverse_quotient g = refl
 
-pub inverse-fits : (g n : ℕ) → n ≤ 1 → Fits w64 (unit / g + n)
-inverse-fits g n h = record { fits = omega (arith, div-le_self unit g) }
+pub inverse_fits : (g n : ℕ) → n ≤ 1 → Fits w64 (unit / g + n)
+inverse_fits g n h = record { fits = omega (arith, div-le_self unit g) }

@@ -15,8 +15,8 @@ pub record Written (f : ℕ → ℤ) (at n : ℕ) (old new : List ℤ) : Type 0 
   pub cells : (j : ℕ) → j < n → get_or new (at + j) (pos 0) ≡ f j
 
 -- from the first cell on
-pub written-holds : (f : ℕ → ℤ) (n : ℕ) (old new : List ℤ) → Written f 0 n old new → Holds f n new
-written-holds f n old new m j h = let e : 0 + j ≡ j = omega arith in ap (λ i. get_or new i (pos 0)) (sym e) ∙ m.cells j h
+pub written_holds : (f : ℕ → ℤ) (n : ℕ) (old new : List ℤ) → Written f 0 n old new → Holds f n new
+written_holds f n old new m j h = let e : 0 + j ≡ j = omega arith in ap (λ i. get_or new i (pos 0)) (sym e) ∙ m.cells j h
 
 pub written_none : (f : ℕ → ℤ) (at : ℕ) (old : List ℤ) → Written f at 0 old old
 written_none f at old = record { long = refl; before = λ j _. refl; cells = λ j h. absurd (omega arith) }
@@ -27,8 +27,8 @@ written_as f g at n k old new m h e = record { long = m.long; before = m.before;
 
 module _ (f : ℕ → ℤ) (at k : ℕ) (old mid : List ℤ) (m : Written f at k old mid) where
   -- up to n, by a second go from the k-th on
-  pub written-more : (g : ℕ → ℤ) (r n : ℕ) (new : List ℤ) → Written g (at + k) r mid new → n ≤ k + r → ((j : ℕ) → k ≤ j → j < n → g (j - k) ≡ f j) → Written f at n old new
-  written-more g r n new w h e =
+  pub written_more : (g : ℕ → ℤ) (r n : ℕ) (new : List ℤ) → Written g (at + k) r mid new → n ≤ k + r → ((j : ℕ) → k ≤ j → j < n → g (j - k) ≡ f j) → Written f at n old new
+  written_more g r n new w h e =
       record {
         long = w.long ∙ m.long;
         before = λ j l. w.before j (omega arith) ∙ m.before j l;

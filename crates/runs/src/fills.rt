@@ -2,7 +2,7 @@
 ghost use Rattle.std.specs.Prelude.{◌+◌, ◌<◌, ◌≤◌, length, pos};
 ghost use Rattle.std.specs.Int.Signed.{mag};
 ghost use Rattle.runs.specs.Lines.{half16};
-ghost use Rattle.runs.specs.Inverses.{mostFrames, lasting};
+ghost use Rattle.runs.specs.Inverses.{most_frames, lasting};
 ghost use Rattle.runs.specs.Written.{together, Written};
 
 // How many cells are filled together.
@@ -25,7 +25,7 @@ fn fill(y: i16, cells: &mut [i16], at: usize)
 
 // A number, stored into the cells from `at` on of all frames in which a line of this growth stays in a byte.
 pub fn fill_byte(y: i16, growth: usize, cells: &mut [i16], at: usize)
-    requires { (mag y < half16) × (at + mostFrames ≤ length cells.old) }
+    requires { (mag y < half16) × (at + most_frames ≤ length cells.old) }
     ensures { Written (λ j. y) at (lasting growth) cells.old cells.new }
 {
     fill(y, cells, at);

@@ -1,107 +1,107 @@
--- Legality is kept: for an accepted file, a legal song and sounding samples to the last, the song after a tick is legal (`song-kept`), and so is the tick (`tick-legal`). A fresh song is legal (`fresh-legal`).
+-- Legality is kept: for an accepted file, a legal song and sounding samples to the last, the song after a tick is legal (`song_kept`), and so is the tick (`tick_legal`). A fresh song is legal (`fresh_legal`).
 -- Assumes nothing.
 use Rattle.std.specs.Prelude.{◌≡◌, ℕ, zero, suc, ◌+◌, ◌%◌, ◌<◌, ◌≤◌, List, get_or, ◌==◌, slice_index, slice_index_or, refl}
 use Rattle.std.proofs.Math.Path.{sym}
 use Rattle.std.proofs.Common.{◌∙◌, arith, eqb-true, lit<, lit≤}
 use borrow.Author.Rules.{zero≤}
 use Rattle.laws.specs.Choice.{either}
-use Rattle.laws.specs.Each.{getD-each, length-partly, getD-first, getD-other, partly-each}
+use Rattle.laws.specs.Each.{get_or-each, length-partly, get_or-first, get_or-other, partly_each}
 use Rattle.common.specs.ByteLaws.{Bytes}
-use Rattle.common.specs.Limits.{width, lastByte}
+use Rattle.common.specs.Limits.{width, last_byte}
 use Rattle.common.specs.LimitFacts.LegalPeriod.{silent}
 use Rattle.ticks.specs.Commands.{nothing}
 use Rattle.sequencer.specs.LegalFacts.{LegalSong, LegalSounding}
 use Rattle.ticks.specs.Legal.{LegalCommand, LegalTick}
 use Rattle.ticks.specs.declared.Command.{Command}
-use Rattle.reader.specs.File.{Module, sampleCount, channelCount, songLength}
-use Rattle.reader.specs.Cells.{cell_at, cellFrom, cellOffset}
-use Rattle.reader.specs.Accept.{Accepted, LegalCell, cell-legal}
+use Rattle.reader.specs.File.{Module, sample_count, channel_count, song_length}
+use Rattle.reader.specs.Cells.{cell_at, cell_from, cell_offset}
+use Rattle.reader.specs.Accept.{Accepted, LegalCell, cell_legal}
 use Rattle.reader.specs.declared.Layout.{Layout}
-use Rattle.effects.specs.Legal.{freshChannel}
-use Rattle.effects.specs.LegalFacts.{fresh-channel-legal, LegalChannel}
-use Rattle.effects.specs.Kept.{voiced-channel, voiced-command}
+use Rattle.effects.specs.Legal.{fresh_channel}
+use Rattle.effects.specs.LegalFacts.{fresh_channel_legal, LegalChannel}
+use Rattle.effects.specs.Kept.{voiced_channel, voiced_command}
 use Rattle.effects.specs.declared.Channel.{Channel}
-use Rattle.sequencer.specs.Row.{cellOn, flowThrough, flow_of}
-use Rattle.sequencer.specs.Songs.{freshSong, songBy, songWork, voicedOn, allVoiced, advanced, tickWith, tickOf}
-use Rattle.sequencer.specs.RowKept.{LegalFlow, flow-legal, flow-from-legal}
-use Rattle.sequencer.specs.NextKept.{position-begins, course-legal, course-kept, time-kept}
+use Rattle.sequencer.specs.Row.{cell_on, flow_through, flow_of}
+use Rattle.sequencer.specs.Songs.{fresh_song, song_by, song_work, voiced_on, all_voiced, advanced, tick_with, tick_of}
+use Rattle.sequencer.specs.RowKept.{LegalFlow, flow_legal, flow_from_legal}
+use Rattle.sequencer.specs.NextKept.{position_begins, course_legal, course_kept, time_kept}
 use Rattle.sequencer.specs.declared.Flow.{Flow}
 use Rattle.sequencer.specs.declared.Song.{Song}
 
 -- ---- the row's work
-module _ (m : Module) (a : Accepted m) (b : Bytes m.bytes) (s : Song) (l : LegalSong (songLength m) m.layout s) where
-  cell-on : (i : ℕ) → i < channelCount m → LegalCell (sampleCount m) (cellOn m s.course.at i)
-  cell-on i h = cell-legal m a s.course.at.position s.course.at.row i l.course.at.position l.course.at.row h
+module _ (m : Module) (a : Accepted m) (b : Bytes m.bytes) (s : Song) (l : LegalSong (song_length m) m.layout s) where
+  cell_on_lem : (i : ℕ) → i < channel_count m → LegalCell (sample_count m) (cell_on m s.course.at i)
+  cell_on_lem i h = cell_legal m a s.course.at.position s.course.at.row i l.course.at.position l.course.at.row h
 
-  param-on : (i : ℕ) → (cellOn m s.course.at i).param ≤ lastByte
-  unfolding cell_at cellFrom
-  param-on i = omega (arith, b (cellOffset m s.course.at.position s.course.at.row i + 3))
+  param_on : (i : ℕ) → (cell_on m s.course.at i).param ≤ last_byte
+  unfolding cell_at cell_from
+  param_on i = omega (arith, b (cell_offset m s.course.at.position s.course.at.row i + 3))
 
-  flows : (f : Flow) → LegalFlow (songLength m) f → (n : ℕ) → LegalFlow (songLength m) (flowThrough m s.course.at f n)
-  unfolding flowThrough
+  flows : (f : Flow) → LegalFlow (song_length m) f → (n : ℕ) → LegalFlow (song_length m) (flow_through m s.course.at f n)
+  unfolding flow_through
   flows f h zero = h
-  flows f h (suc n) = flow-legal (cellOn m s.course.at n) (param-on n) (songLength m) s.course.at.row a.song.0 l.course.at.row (flowThrough m s.course.at f n) (flows f h n)
+  flows f h (suc n) = flow_legal (cell_on m s.course.at n) (param_on n) (song_length m) s.course.at.row a.song.0 l.course.at.row (flow_through m s.course.at f n) (flows f h n)
 
-  row-song : s.time.tick ≡ 0 → LegalSong (songLength m) m.layout (songBy (songLength m) s (flow_of m s.course s.time))
-  unfolding songBy
-  row-song e =
-      let f = flows _ (flow-from-legal (songLength m) s.course s.time a.song.0 e l.course l.time) (channelCount m) in
-      record { course = course-legal _ _ _ a.song.0 l.course f; time = f.time; channels = l.channels; rest = l.rest }
+  row_song : s.time.tick ≡ 0 → LegalSong (song_length m) m.layout (song_by (song_length m) s (flow_of m s.course s.time))
+  unfolding song_by
+  row_song e =
+      let f = flows _ (flow_from_legal (song_length m) s.course s.time a.song.0 e l.course l.time) (channel_count m) in
+      record { course = course_legal _ _ _ a.song.0 l.course f; time = f.time; channels = l.channels; rest = l.rest }
 
-  pub work-kept : LegalSong (songLength m) m.layout (songWork m s)
-  unfolding songWork
-  work-kept = either (LegalSong (songLength m) m.layout) (s.time.tick == 0) _ _ (λ e. row-song (eqb-true _ _ e)) (λ e. l)
+  pub work_kept : LegalSong (song_length m) m.layout (song_work m s)
+  unfolding song_work
+  work_kept = either (LegalSong (song_length m) m.layout) (s.time.tick == 0) _ _ (λ e. row_song (eqb-true _ _ e)) (λ e. l)
 
   -- any channel in the tick
-  module _ (sounding : List ℕ) (i : ℕ) (h : i < channelCount m) (k : get_or sounding i 0 ≤ sampleCount m) where
-    pub channel-kept : LegalChannel (sampleCount m) (voicedOn m s sounding i).channel
-    unfolding voicedOn
-    channel-kept = voiced-channel m a (cellOn m s.course.at i) (cell-on i h) (param-on i) s.time.tick (s.time.tick % s.time.speed) (slice_index_or s.channels i freshChannel) (l.channels i h) (slice_index sounding i) k
+  module _ (sounding : List ℕ) (i : ℕ) (h : i < channel_count m) (k : get_or sounding i 0 ≤ sample_count m) where
+    pub channel_kept : LegalChannel (sample_count m) (voiced_on m s sounding i).channel
+    unfolding voiced_on
+    channel_kept = voiced_channel m a (cell_on m s.course.at i) (cell_on_lem i h) (param_on i) s.time.tick (s.time.tick % s.time.speed) (slice_index_or s.channels i fresh_channel) (l.channels i h) (slice_index sounding i) k
 
-    pub command-legal : LegalCommand (sampleCount m) (slice_index sounding i) (voicedOn m s sounding i).command
-    unfolding voicedOn
-    command-legal = voiced-command m a (cellOn m s.course.at i) (cell-on i h) (param-on i) s.time.tick (s.time.tick % s.time.speed) (slice_index_or s.channels i freshChannel) (l.channels i h) (slice_index sounding i) k
+    pub command_legal : LegalCommand (sample_count m) (slice_index sounding i) (voiced_on m s sounding i).command
+    unfolding voiced_on
+    command_legal = voiced_command m a (cell_on m s.course.at i) (cell_on_lem i h) (param_on i) s.time.tick (s.time.tick % s.time.speed) (slice_index_or s.channels i fresh_channel) (l.channels i h) (slice_index sounding i) k
 
 -- ---- after the frames
-advanced-legal : (positions : ℕ) (layout : Layout) (s : Song) → LegalSong positions layout s → (chs : List Channel) → ((i : ℕ) → i < layout.channels → LegalChannel layout.samples (slice_index_or chs i freshChannel)) → ((i : ℕ) → i < width → layout.channels ≤ i → slice_index_or chs i freshChannel ≡ freshChannel) → LegalSong positions layout (advanced s chs)
+advanced_legal : (positions : ℕ) (layout : Layout) (s : Song) → LegalSong positions layout s → (chs : List Channel) → ((i : ℕ) → i < layout.channels → LegalChannel layout.samples (slice_index_or chs i fresh_channel)) → ((i : ℕ) → i < width → layout.channels ≤ i → slice_index_or chs i fresh_channel ≡ fresh_channel) → LegalSong positions layout (advanced s chs)
 unfolding advanced
-advanced-legal positions layout s l chs h r = record { course = course-kept _ _ _ l.course; time = time-kept s.time l.time; channels = h; rest = r }
+advanced_legal positions layout s l chs h r = record { course = course_kept _ _ _ l.course; time = time_kept s.time l.time; channels = h; rest = r }
 
 -- ---- the tick
-nothing-legal : (last : ℕ) → LegalCommand last 0 nothing
-nothing-legal last = record { sample = zero≤; volume = zero≤; period = silent; offset = zero≤; stays = λ e. refl; plain = λ e. refl }
+nothing_legal : (last : ℕ) → LegalCommand last 0 nothing
+nothing_legal last = record { sample = zero≤; volume = zero≤; period = silent; offset = zero≤; stays = λ e. refl; plain = λ e. refl }
 
 -- the song after a tick is legal
-module _ (m : Module) (a : Accepted m) (b : Bytes m.bytes) (room : channelCount m ≤ width) (s : Song) (l : LegalSong (songLength m) m.layout s) (sounding : List ℕ) (k : LegalSounding m sounding) where
-  pub song-kept : LegalSong (songLength m) m.layout (tickOf m s sounding).song
-  unfolding tickOf tickWith allVoiced
-  song-kept =
-      advanced-legal _ _ _ (work-kept m a b s l) _ (λ i h. rw (getD-first f (channelCount m) (λ j. freshChannel) width i freshChannel room h) (channel-kept m a b s l sounding i h (k.low i h)))
-      (λ i w h. getD-other f (channelCount m) (λ j. freshChannel) width i freshChannel w h)
+module _ (m : Module) (a : Accepted m) (b : Bytes m.bytes) (room : channel_count m ≤ width) (s : Song) (l : LegalSong (song_length m) m.layout s) (sounding : List ℕ) (k : LegalSounding m sounding) where
+  pub song_kept : LegalSong (song_length m) m.layout (tick_of m s sounding).song
+  unfolding tick_of tick_with all_voiced
+  song_kept =
+      advanced_legal _ _ _ (work_kept m a b s l) _ (λ i h. rw (get_or-first f (channel_count m) (λ j. fresh_channel) width i fresh_channel room h) (channel_kept m a b s l sounding i h (k.low i h)))
+      (λ i w h. get_or-other f (channel_count m) (λ j. fresh_channel) width i fresh_channel w h)
     where
       f : ℕ → Channel
-      f j = (voicedOn m s sounding j).channel
+      f j = (voiced_on m s sounding j).channel
 
   -- and so is the tick
-  pub tick-legal : LegalTick (sampleCount m) sounding (tickOf m s sounding).tick
-  unfolding tickOf tickWith allVoiced
-  tick-legal =
+  pub tick_legal : LegalTick (sample_count m) sounding (tick_of m s sounding).tick
+  unfolding tick_of tick_with all_voiced
+  tick_legal =
       record {
-        tempo = (work-kept m a b s l).time.tempo;
-        long = length-partly f (channelCount m) (λ j. nothing) width ∙ sym k.long;
-        commands = λ i h. partly-each (λ (j : ℕ) (x : Command). LegalCommand (sampleCount m) (slice_index sounding j) x) f (channelCount m) (λ j. nothing) width nothing (λ j q. command-legal m a b s l sounding j q (k.low j q)) (λ j w q. rw (k.rest j w q) (nothing-legal (sampleCount m))) i (rw k.long at h);
+        tempo = (work_kept m a b s l).time.tempo;
+        long = length-partly f (channel_count m) (λ j. nothing) width ∙ sym k.long;
+        commands = λ i h. partly_each (λ (j : ℕ) (x : Command). LegalCommand (sample_count m) (slice_index sounding j) x) f (channel_count m) (λ j. nothing) width nothing (λ j q. command_legal m a b s l sounding j q (k.low j q)) (λ j w q. rw (k.rest j w q) (nothing_legal (sample_count m))) i (rw k.long at h);
       }
     where
       f : ℕ → Command
-      f j = (voicedOn m s sounding j).command
+      f j = (voiced_on m s sounding j).command
 
 -- ---- fresh states are legal
-pub fresh-legal : (positions : ℕ) (layout : Layout) → layout.channels ≤ width → 0 < positions → LegalSong positions layout freshSong
-unfolding freshSong
-fresh-legal positions layout room h =
+pub fresh_legal : (positions : ℕ) (layout : Layout) → layout.channels ≤ width → 0 < positions → LegalSong positions layout fresh_song
+unfolding fresh_song
+fresh_legal positions layout room h =
     record {
-      course = position-begins positions 0 h;
+      course = position_begins positions 0 h;
       time = record { speed = record { low = lit≤ tt; high = lit≤ tt }; delay = zero≤; tick = lit< tt; tempo = record { low = lit≤ tt; high = lit≤ tt } };
-      channels = λ i l. rw (getD-each (λ j. freshChannel) width i freshChannel (omega arith)) (fresh-channel-legal layout.samples);
-      rest = λ i w l. getD-each (λ j. freshChannel) width i freshChannel w;
+      channels = λ i l. rw (get_or-each (λ j. fresh_channel) width i fresh_channel (omega arith)) (fresh_channel_legal layout.samples);
+      rest = λ i w l. get_or-each (λ j. fresh_channel) width i fresh_channel w;
     }

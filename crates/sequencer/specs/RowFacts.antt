@@ -3,26 +3,26 @@
 use Rattle.std.specs.Prelude.{◌≡◌, ℕ, ◌+◌, ◌*◌, ◌^◌, ◌<◌}
 use Rattle.std.proofs.Common.{ap, arith, ne_eqb}
 use Rattle.reader.specs.File.{Module}
-use Rattle.reader.specs.Cells.{cellFrom, rowOffset, cell_at}
+use Rattle.reader.specs.Cells.{cell_from, row_offset, cell_at}
 use Rattle.reader.specs.declared.Cell.{Cell}
 use Rattle.sequencer.specs.declared.Place.{Place}
 use Rattle.sequencer.specs.declared.Flow.{Flow}
-use Rattle.sequencer.specs.Row.{rowSpeed, rowTempo, rowDelay, rowTime, rowLoop, rowMove, rowFlow, cellOn}
+use Rattle.sequencer.specs.Row.{row_speed, row_tempo, row_delay, row_time, row_loop, row_move, row_flow, cell_on}
 
 -- a row's cells begin at a place of the file
 pub record BeginsAt (m : Module) (at : Place) (row : ℕ) : Type 0 where
-  pub place : row ≡ rowOffset m at.position at.row
+  pub place : row ≡ row_offset m at.position at.row
   pub low : row < 2 ^ 62
 
 -- from there the channels' cells follow
-pub cell-there : (m : Module) (at : Place) (row : ℕ) → BeginsAt m at row → (i : ℕ) → cellFrom m.bytes (row + 4 * i) ≡ cellOn m at i
+pub cell_there : (m : Module) (at : Place) (row : ℕ) → BeginsAt m at row → (i : ℕ) → cell_from m.bytes (row + 4 * i) ≡ cell_on m at i
 unfolding cell_at
-cell-there m at row b i = ap (cellFrom m.bytes) (omega (arith, b.place))
+cell_there m at row b i = ap (cell_from m.bytes) (omega (arith, b.place))
 
 -- effects below B do nothing to the song
-pub flow-stays : (positions row : ℕ) (c : Cell) (f : Flow) → c.effect < 0x0B → f ≡ rowFlow positions row c f
-unfolding rowFlow rowTime rowSpeed rowTempo rowDelay rowLoop rowMove
-flow-stays positions row c f h =
+pub flow_stays : (positions row : ℕ) (c : Cell) (f : Flow) → c.effect < 0x0B → f ≡ row_flow positions row c f
+unfolding row_flow row_time row_speed row_tempo row_delay row_loop row_move
+flow_stays positions row c f h =
     rw (
       ne_eqb c.effect 0x0F (omega arith),
       ne_eqb c.effect 0xEE (omega arith),

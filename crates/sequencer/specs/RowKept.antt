@@ -1,5 +1,5 @@
 -- The row's work keeps what it works on legal: the time, the loop, and where B and D lead, after any number of an accepted file's cells.
--- The main law: `flow-legal`.
+-- The main law: `flow_legal`.
 -- Assumes nothing.
 use Rattle.std.specs.Prelude.{◌≡◌, ℕ, ◌+◌, ◌-◌, ◌%◌, ◌<◌, ◌≤◌, ◌==◌, nat_lt}
 use Rattle.std.proofs.Common.{arith}
@@ -8,11 +8,11 @@ use borrow.Author.Rules.{zero≤}
 use Rattle.std.proofs.Math.Dec.{lit≤}
 use Rattle.laws.specs.Choice.{either}
 use Rattle.laws.specs.Numbers.{cond-le}
-use Rattle.common.specs.Limits.{lastRow, lastByte, leastTempo, greatestTempo}
+use Rattle.common.specs.Limits.{last_row, last_byte, least_tempo, greatest_tempo}
 use Rattle.reader.specs.declared.Cell.{Cell}
 use Rattle.effects.specs.Notes.{y}
-use Rattle.sequencer.specs.Row.{rowSpeed, rowTempo, rowDelay, rowTime, counted, rowLoop, jumpPosition, tens, breakRow, rowMove, rowFlow, following, flowFrom}
-use Rattle.sequencer.specs.Legal.{leastSpeed, greatestSpeed, lastDelay}
+use Rattle.sequencer.specs.Row.{row_speed, row_tempo, row_delay, row_time, counted, row_loop, jump_position, tens, break_row, row_move, row_flow, following, flow_from}
+use Rattle.sequencer.specs.Legal.{least_speed, greatest_speed, last_delay}
 use Rattle.sequencer.specs.declared.Course.{Course}
 use Rattle.sequencer.specs.declared.Time.{Time}
 use Rattle.sequencer.specs.declared.Looping.{Looping}
@@ -23,13 +23,13 @@ use Rattle.sequencer.specs.LegalFacts.{LegalCourse, LegalTime}
 
 -- ---- on the way through a row
 pub record LegalLooping (l : Looping) : Type 0 where
-  pub row : l.row ≤ lastRow
-  pub count : l.count ≤ lastDelay
-  pub target : l.target ≤ lastRow
+  pub row : l.row ≤ last_row
+  pub count : l.count ≤ last_delay
+  pub target : l.target ≤ last_row
 
 pub record LegalMove (positions : ℕ) (v : Move) : Type 0 where
   pub position : v.position < positions
-  pub row : v.row ≤ lastRow
+  pub row : v.row ≤ last_row
 
 -- at u = 0
 pub record LegalFlow (positions : ℕ) (f : Flow) : Type 0 where
@@ -39,87 +39,87 @@ pub record LegalFlow (positions : ℕ) (f : Flow) : Type 0 where
   pub moving : LegalMove positions f.moving
 
 -- ---- the numbers
-nibble : (n : ℕ) → n % 16 ≤ lastDelay
+nibble : (n : ℕ) → n % 16 ≤ last_delay
 nibble n = omega arith
 
-fewer : (n : ℕ) → n ≤ lastDelay → n - 1 ≤ lastDelay
+fewer : (n : ℕ) → n ≤ last_delay → n - 1 ≤ last_delay
 fewer n h = omega arith
 
-break-legal : (p : ℕ) → breakRow p ≤ lastRow
-unfolding breakRow
-break-legal p = either (λ (n : ℕ). n ≤ lastRow) (nat_lt lastRow (tens p)) 0 (tens p) (λ l. zero≤) (λ l. ltb-false lastRow (tens p) l)
+break_legal : (p : ℕ) → break_row p ≤ last_row
+unfolding break_row
+break_legal p = either (λ (n : ℕ). n ≤ last_row) (nat_lt last_row (tens p)) 0 (tens p) (λ l. zero≤) (λ l. ltb-false last_row (tens p) l)
 
-jump-legal : (positions p : ℕ) → 0 < positions → jumpPosition positions p < positions
-unfolding jumpPosition
-jump-legal positions p h = either (λ (k : ℕ). k < positions) (nat_lt p positions) p 0 (λ l. ltb-true p positions l) (λ l. h)
+jump_legal : (positions p : ℕ) → 0 < positions → jump_position positions p < positions
+unfolding jump_position
+jump_legal positions p h = either (λ (k : ℕ). k < positions) (nat_lt p positions) p 0 (λ l. ltb-true p positions l) (λ l. h)
 
-pub following-legal : (positions p : ℕ) → 0 < positions → following positions p < positions
+pub following_legal : (positions p : ℕ) → 0 < positions → following positions p < positions
 unfolding following
-following-legal positions p h = either (λ (k : ℕ). k < positions) (nat_lt (p + 1) positions) (p + 1) 0 (λ l. ltb-true (p + 1) positions l) (λ l. h)
+following_legal positions p h = either (λ (k : ℕ). k < positions) (nat_lt (p + 1) positions) (p + 1) 0 (λ l. ltb-true (p + 1) positions l) (λ l. h)
 
 -- ---- one cell's work
-counted-legal : (l : Looping) (n : ℕ) → LegalLooping l → n ≤ lastDelay → LegalLooping (counted l n)
+counted_legal : (l : Looping) (n : ℕ) → LegalLooping l → n ≤ last_delay → LegalLooping (counted l n)
 unfolding counted
-counted-legal l n h k =
+counted_legal l n h k =
     either LegalLooping (n == 0) _ _ (λ e. record { row = h.row; count = zero≤; target = h.target }) (λ e. record { row = h.row; count = k; target = h.row })
 
 module _ (c : Cell) where
-  speed-legal : (s : ℕ) → Between leastSpeed greatestSpeed s → Between leastSpeed greatestSpeed (rowSpeed c s)
-  unfolding rowSpeed
-  speed-legal s h =
-      either (Between leastSpeed greatestSpeed) (c.effect == 0x0F) _ _
-      (λ f. either (Between leastSpeed greatestSpeed) (c.param == 0) _ _ (λ e. record { low = lit≤ tt; high = lit≤ tt })
-      (λ e. either (Between leastSpeed greatestSpeed) (nat_lt c.param leastTempo) _ _ (λ l. omega (arith, eqb-false c.param 0 e, ltb-true c.param leastTempo l)) (λ l. h)))
+  speed_legal : (s : ℕ) → Between least_speed greatest_speed s → Between least_speed greatest_speed (row_speed c s)
+  unfolding row_speed
+  speed_legal s h =
+      either (Between least_speed greatest_speed) (c.effect == 0x0F) _ _
+      (λ f. either (Between least_speed greatest_speed) (c.param == 0) _ _ (λ e. record { low = lit≤ tt; high = lit≤ tt })
+      (λ e. either (Between least_speed greatest_speed) (nat_lt c.param least_tempo) _ _ (λ l. omega (arith, eqb-false c.param 0 e, ltb-true c.param least_tempo l)) (λ l. h)))
       (λ f. h)
 
-  tempo-legal : c.param ≤ lastByte → (s : ℕ) → Between leastTempo greatestTempo s → Between leastTempo greatestTempo (rowTempo c s)
-  unfolding rowTempo
-  tempo-legal b s h =
-      either (Between leastTempo greatestTempo) (c.effect == 0x0F) _ _
-      (λ f. either (Between leastTempo greatestTempo) (nat_lt c.param leastTempo) _ _ (λ l. h) (λ l. omega (arith, ltb-false c.param leastTempo l)))
+  tempo_legal : c.param ≤ last_byte → (s : ℕ) → Between least_tempo greatest_tempo s → Between least_tempo greatest_tempo (row_tempo c s)
+  unfolding row_tempo
+  tempo_legal b s h =
+      either (Between least_tempo greatest_tempo) (c.effect == 0x0F) _ _
+      (λ f. either (Between least_tempo greatest_tempo) (nat_lt c.param least_tempo) _ _ (λ l. h) (λ l. omega (arith, ltb-false c.param least_tempo l)))
       (λ f. h)
 
-  delay-legal : (d : ℕ) → d ≤ lastDelay → rowDelay c d ≤ lastDelay
-  unfolding rowDelay
-  delay-legal d h = search (cond-le, nibble, h)
+  delay_legal : (d : ℕ) → d ≤ last_delay → row_delay c d ≤ last_delay
+  unfolding row_delay
+  delay_legal d h = search (cond-le, nibble, h)
 
-  time-legal : c.param ≤ lastByte → (t : Time) → t.tick ≡ 0 → LegalTime t → LegalTime (rowTime c t)
-  unfolding rowTime
-  time-legal b t z h =
-      let s = speed-legal t.speed h.speed in
-      record { speed = s; delay = delay-legal t.delay h.delay; tick = omega (arith, s.low); tempo = tempo-legal b t.tempo h.tempo }
+  time_legal : c.param ≤ last_byte → (t : Time) → t.tick ≡ 0 → LegalTime t → LegalTime (row_time c t)
+  unfolding row_time
+  time_legal b t z h =
+      let s = speed_legal t.speed h.speed in
+      record { speed = s; delay = delay_legal t.delay h.delay; tick = omega (arith, s.low); tempo = tempo_legal b t.tempo h.tempo }
 
-  loop-legal : (row : ℕ) → row ≤ lastRow → (l : Looping) → LegalLooping l → LegalLooping (rowLoop c row l)
-  unfolding rowLoop
-  loop-legal row r l h =
+  loop_legal : (row : ℕ) → row ≤ last_row → (l : Looping) → LegalLooping l → LegalLooping (row_loop c row l)
+  unfolding row_loop
+  loop_legal row r l h =
       either LegalLooping (c.effect == 0xE6) _ _
       (λ f. either LegalLooping (y c == 0) _ _ (λ e. record { row = r; count = h.count; target = h.target })
-      (λ e. counted-legal l _ h (search (cond-le, nibble, fewer, h))))
+      (λ e. counted_legal l _ h (search (cond-le, nibble, fewer, h))))
       (λ f. h)
 
-  move-legal : (positions : ℕ) → 0 < positions → (v : Move) → LegalMove positions v → LegalMove positions (rowMove positions c v)
-  unfolding rowMove
-  move-legal positions z v h =
-      either (LegalMove positions) (c.effect == 0x0B) _ _ (λ e. record { position = jump-legal positions c.param z; row = h.row })
-      (λ e. either (LegalMove positions) (c.effect == 0x0D) _ _ (λ k. record { position = h.position; row = break-legal c.param }) (λ k. h))
+  move_legal : (positions : ℕ) → 0 < positions → (v : Move) → LegalMove positions v → LegalMove positions (row_move positions c v)
+  unfolding row_move
+  move_legal positions z v h =
+      either (LegalMove positions) (c.effect == 0x0B) _ _ (λ e. record { position = jump_legal positions c.param z; row = h.row })
+      (λ e. either (LegalMove positions) (c.effect == 0x0D) _ _ (λ k. record { position = h.position; row = break_legal c.param }) (λ k. h))
 
-  pub flow-legal : c.param ≤ lastByte → (positions row : ℕ) → 0 < positions → row ≤ lastRow → (f : Flow) → LegalFlow positions f → LegalFlow positions (rowFlow positions row c f)
-  unfolding rowFlow rowTime
-  flow-legal b positions row z r f h =
+  pub flow_legal : c.param ≤ last_byte → (positions row : ℕ) → 0 < positions → row ≤ last_row → (f : Flow) → LegalFlow positions f → LegalFlow positions (row_flow positions row c f)
+  unfolding row_flow row_time
+  flow_legal b positions row z r f h =
       record {
         first = h.first;
-        time = time-legal b f.time h.first h.time;
-        looping = loop-legal row r f.looping h.looping;
-        moving = move-legal positions z f.moving h.moving;
+        time = time_legal b f.time h.first h.time;
+        looping = loop_legal row r f.looping h.looping;
+        moving = move_legal positions z f.moving h.moving;
       }
 
 -- ---- before the row's first cell
-pub flow-from-legal : (positions : ℕ) (c : Course) (t : Time) → 0 < positions → t.tick ≡ 0 → LegalCourse positions c → LegalTime t → LegalFlow positions (flowFrom positions c t)
-unfolding flowFrom
-flow-from-legal positions c t z e l h =
+pub flow_from_legal : (positions : ℕ) (c : Course) (t : Time) → 0 < positions → t.tick ≡ 0 → LegalCourse positions c → LegalTime t → LegalFlow positions (flow_from positions c t)
+unfolding flow_from
+flow_from_legal positions c t z e l h =
     record {
       first = e;
       time = h;
       looping = record { row = l.looping.row; count = l.looping.count; target = zero≤ };
-      moving = record { position = following-legal positions c.at.position z; row = zero≤ };
+      moving = record { position = following_legal positions c.at.position z; row = zero≤ };
     }

@@ -2,18 +2,18 @@
 // numbers are handed to it beside the song.
 ghost use Rattle.std.specs.Prelude.{◌≡◌, ℕ, ◌+◌, ◌*◌, ◌^◌, ◌<◌, ◌≤◌, slice_index};
 ghost use Rattle.common.specs.Limits.{width};
-ghost use Rattle.ticks.specs.Commands.{soundingOf};
+ghost use Rattle.ticks.specs.Commands.{sounding_of};
 ghost use Rattle.reader.specs.Layouts.{LegalLayout};
 ghost use Rattle.sequencer.specs.LegalFacts.{LegalTime, LegalSong, LegalRun};
 ghost use Rattle.reader.specs.Judge.{verdict};
 ghost use Rattle.effects.specs.Commands.{voiced};
 ghost use Rattle.effects.specs.LegalFacts.{LegalDepths};
 ghost use Rattle.effects.specs.Small.{Small};
-ghost use Rattle.reader.specs.Cells.{cellFrom};
+ghost use Rattle.reader.specs.Cells.{cell_from};
 ghost use Rattle.sequencer.specs.RowFacts.{BeginsAt};
 ghost use Rattle.sequencer.specs.Voicing.{BeforeWork};
-ghost use Rattle.reader.specs.File.{lent, songLength};
-ghost use Rattle.sequencer.specs.Songs.{courseFrom, freshSong, voicedOn, allVoiced, tickWith, tickOf};
+ghost use Rattle.reader.specs.File.{lent, song_length};
+ghost use Rattle.sequencer.specs.Songs.{course_from, fresh_song, voiced_on, all_voiced, tick_with, tick_of};
 
 use common::limits::WIDTH;
 use effects::{Channel, Voiced};
@@ -113,7 +113,7 @@ pub struct Worked {
 
 // The course from a position's first row on.
 pub fn course_from(position: u32) -> Course
-    ensures { result ≡ courseFrom position }
+    ensures { result ≡ course_from position }
 {
     let at = Place {
         position: position,
@@ -128,7 +128,7 @@ pub fn course_from(position: u32) -> Course
 
 // The song before its first tick.
 pub fn fresh() -> Song
-    ensures { result ≡ freshSong }
+    ensures { result ≡ fresh_song }
 {
     let channel = effects::fresh_channel();
     let channels = [channel; WIDTH];
@@ -157,8 +157,8 @@ fn voiced_on(
 ) -> Voiced
     requires place { (row < 2 ^ 62) × (i < width) }
     requires depths { LegalDepths channel }
-    requires small { Small (voiced file.now (cellFrom file.now (row + 4 * i)) u t channel sounding) }
-    ensures { result ≡ voiced file.now (cellFrom file.now (row + 4 * i)) u t channel sounding }
+    requires small { Small (voiced file.now (cell_from file.now (row + 4 * i)) u t channel sounding) }
+    ensures { result ≡ voiced file.now (cell_from file.now (row + 4 * i)) u t channel sounding }
 {
     effects::commands::voiced(
         file,
@@ -195,9 +195,9 @@ fn all_voiced(
 ) -> AllVoiced
     requires layout { LegalLayout layout }
     requires row { BeginsAt (lent layout file.now) song.course.at row }
-    requires legal { LegalSong (songLength (lent layout file.now)) layout song }
-    requires small { (j : ℕ) → j < layout.channels → Small (voicedOn (lent layout file.now) song sounding j) }
-    ensures { result ≡ allVoiced (lent layout file.now) song sounding }
+    requires legal { LegalSong (song_length (lent layout file.now)) layout song }
+    requires small { (j : ℕ) → j < layout.channels → Small (voiced_on (lent layout file.now) song sounding j) }
+    ensures { result ≡ all_voiced (lent layout file.now) song sounding }
 {
     let u = song.time.tick;
     let t = u % song.time.speed;
@@ -217,7 +217,7 @@ fn all_voiced(
 
 fn tick_with(song: Song, voiced: AllVoiced) -> Worked
     requires { LegalTime song.time }
-    ensures { result ≡ tickWith song voiced }
+    ensures { result ≡ tick_with song voiced }
 {
     let channels = voiced.channels;
     let commands = voiced.commands;
@@ -235,7 +235,7 @@ pub fn tick(layout: Layout, file: &[u8], song: Song, sounding: [u32; WIDTH]) -> 
     requires layout { LegalLayout layout }
     requires accepted { (verdict (lent layout file.now)).number ≡ 0 }
     requires legal { LegalRun (lent layout file.now) song sounding }
-    ensures { result ≡ tickOf (lent layout file.now) song sounding }
+    ensures { result ≡ tick_of (lent layout file.now) song sounding }
 {
     let positions = reader::song::song_length(layout, file);
     let at = song.course.at;
@@ -247,8 +247,8 @@ pub fn tick(layout: Layout, file: &[u8], song: Song, sounding: [u32; WIDTH]) -> 
 // The samples that the voices have after these commands; past the channels in use they have none.
 pub fn sounding_of(channels: usize, commands: [Command; WIDTH]) -> [u32; WIDTH]
     requires few { channels ≤ width }
-    requires rest { (i : ℕ) → i < width → channels ≤ i → slice_index (soundingOf commands) i ≡ 0 }
-    ensures { result ≡ soundingOf commands }
+    requires rest { (i : ℕ) → i < width → channels ≤ i → slice_index (sounding_of commands) i ≡ 0 }
+    ensures { result ≡ sounding_of commands }
 {
     let mut samples = [0; WIDTH];
     let mut i = 0;

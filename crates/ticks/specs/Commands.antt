@@ -10,6 +10,6 @@ nothing = record { sample = 0; volume = 0; period = 0; start = false; offset = 0
 
 -- ---- ticks in a row
 -- the samples that sound after these commands
-unfoldable pub soundingOf : List Command → List ℕ
-soundingOf [] = []
-soundingOf (c ∷ cs) = c.sample ∷ soundingOf cs
+unfoldable pub sounding_of : List Command → List ℕ
+sounding_of [] = []
+sounding_of (c ∷ cs) = c.sample ∷ sounding_of cs

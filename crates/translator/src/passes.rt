@@ -2,15 +2,15 @@
 ghost use Rattle.std.specs.Prelude.{◌≡◌, ◌≤◌, length};
 ghost use Rattle.common.specs.Answers.{accepted, outcome};
 ghost use Rattle.common.specs.Limits.{width};
-ghost use Rattle.ticks.specs.Commands.{soundingOf};
+ghost use Rattle.ticks.specs.Commands.{sounding_of};
 ghost use Rattle.reader.specs.Layouts.{LegalLayout};
 ghost use Rattle.sequencer.specs.LegalFacts.{LegalRun};
 ghost use Rattle.ticks.specs.Play.{over};
 ghost use Rattle.reader.specs.File.{lent};
 ghost use Rattle.reader.specs.Judge.{verdict};
-ghost use Rattle.sequencer.specs.Songs.{tickOf};
-ghost use Rattle.translator.specs.Translate.{streamOf, written};
-ghost use Rattle.translator.specs.Passes.{mostBytes, Asked, recordsOf};
+ghost use Rattle.sequencer.specs.Songs.{tick_of};
+ghost use Rattle.translator.specs.Translate.{stream_of, written};
+ghost use Rattle.translator.specs.Passes.{most_bytes, Asked, records_of};
 
 use common::limits::WIDTH;
 use reader::Layout;
@@ -22,8 +22,8 @@ use ticks::Command;
 fn next_tick(layout: Layout, file: &[u8], song: Song, registers: [Command; WIDTH]) -> Worked
     requires layout { LegalLayout layout }
     requires judged { (verdict (lent layout file.now)).number ≡ 0 }
-    requires legal { LegalRun (lent layout file.now) song (soundingOf registers) }
-    ensures { result ≡ tickOf (lent layout file.now) song (soundingOf registers) }
+    requires legal { LegalRun (lent layout file.now) song (sounding_of registers) }
+    ensures { result ≡ tick_of (lent layout file.now) song (sounding_of registers) }
 {
     sequencer::tick(
         layout,
@@ -37,7 +37,7 @@ fn next_tick(layout: Layout, file: &[u8], song: Song, registers: [Command; WIDTH
 fn stream_len(layout: Layout, file: &[u8], ticks: u32) -> usize
     requires layout { LegalLayout layout }
     requires judged { (verdict (lent layout file.now)).number ≡ 0 }
-    ensures { result ≡ length (streamOf (lent layout file.now) ticks) }
+    ensures { result ≡ length (stream_of (lent layout file.now) ticks) }
 {
     let mut song = sequencer::fresh();
     let mut registers = records::at_first();
@@ -57,7 +57,7 @@ fn stream_len(layout: Layout, file: &[u8], ticks: u32) -> usize
 // The most bytes that a stream of so many ticks can have.
 fn most_len(channels: usize, ticks: u32) -> usize
     requires { channels ≤ width }
-    ensures { result ≡ mostBytes channels ticks }
+    ensures { result ≡ most_bytes channels ticks }
 {
     RECORDS_PLACE + (HEAD_BYTES + BODY_BYTES * channels) * ticks as usize
 }
@@ -79,9 +79,9 @@ pub fn asked_len(layout: Layout, file: &[u8], ticks: u32, room: usize) -> usize
 fn write_records(layout: Layout, file: &[u8], ticks: u32, room: &mut [u8]) -> usize
     requires layout { LegalLayout layout }
     requires judged { (verdict (lent layout file.now)).number ≡ 0 }
-    requires fits { length (recordsOf (lent layout file.now) ticks) ≤ length room.old }
-    ensures long { result ≡ length (recordsOf (lent layout file.now) ticks) }
-    ensures written { room.new ≡ over (recordsOf (lent layout file.now) ticks) room.old }
+    requires fits { length (records_of (lent layout file.now) ticks) ≤ length room.old }
+    ensures long { result ≡ length (records_of (lent layout file.now) ticks) }
+    ensures written { room.new ≡ over (records_of (lent layout file.now) ticks) room.old }
 {
     let mut song = sequencer::fresh();
     let mut registers = records::at_first();
@@ -104,7 +104,7 @@ fn write_records(layout: Layout, file: &[u8], ticks: u32, room: &mut [u8]) -> us
 pub fn write_stream(layout: Layout, file: &[u8], ticks: u32, room: &mut [u8]) -> usize
     requires layout { LegalLayout layout }
     requires judged { (verdict (lent layout file.now)).number ≡ 0 }
-    requires fits { length (streamOf (lent layout file.now) ticks) ≤ length room.old }
+    requires fits { length (stream_of (lent layout file.now) ticks) ≤ length room.old }
     ensures { outcome (accepted result) room.new ≡ written (lent layout file.now) ticks room.old }
 {
     let len = RECORDS_PLACE + write_records(layout, file, ticks, &mut room[RECORDS_PLACE..]);

@@ -5,16 +5,16 @@ use Rattle.std.specs.Prelude.{ℕ, ◌+◌, ◌*◌, List, [], ◌∷◌, get_or
 use Rattle.laws.specs.Ranges.{each}
 
 -- finetune 0 to 15, 8 to 15 meaning -8 to -1
-abbrev pub lastFinetune : ℕ
-lastFinetune = 15
+abbrev pub last_finetune : ℕ
+last_finetune = 15
 
 -- 36 periods a row
-abbrev pub rowLength : ℕ
-rowLength = 36
+abbrev pub row_length : ℕ
+row_length = 36
 
 -- the last of them
-abbrev pub lastNote : ℕ
-lastNote = 35
+abbrev pub last_note : ℕ
+last_note = 35
 
 -- the printed numbers, row by row
 unfoldable pub printed : List ℕ
@@ -86,16 +86,16 @@ printed =
 
 -- entry i of a finetune's row
 unfoldable pub entry : ℕ → ℕ → ℕ
-entry f i = get_or printed (rowLength * f + i) 0
+entry f i = get_or printed (row_length * f + i) 0
 
 -- the row
 unfoldable pub row_of : ℕ → List ℕ
-row_of f = each (entry f) rowLength
+row_of f = each (entry f) row_length
 
 -- the row's first entry, its greatest
-abbrev pub greatestOf : ℕ → ℕ
-greatestOf f = entry f 0
+abbrev pub greatest_of : ℕ → ℕ
+greatest_of f = entry f 0
 
 -- and its last, its least
-abbrev pub leastOf : ℕ → ℕ
-leastOf f = entry f lastNote
+abbrev pub least_of : ℕ → ℕ
+least_of f = entry f last_note

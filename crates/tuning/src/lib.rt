@@ -1,6 +1,6 @@
 // The periods of the notes, by finetune. A finetune is a header's number: 0 to 15, 8 to 15 meaning -8 to -1.
 ghost use Rattle.std.specs.Prelude.{◌≡◌, ◌≤◌};
-ghost use Rattle.tuning.specs.Table.{lastNote, entry, row_of};
+ghost use Rattle.tuning.specs.Table.{last_note, entry, row_of};
 ghost use Rattle.tuning.specs.Tuned.{place_of, tuned, kept, semitones};
 
 pub use crate::table::greatest_of;
@@ -13,7 +13,7 @@ pub const LAST_FINETUNE: u32 = 15;
 
 // The entry of a row at a place.
 fn entry(finetune: u32, note: usize) -> u32
-    requires { note ≤ lastNote }
+    requires { note ≤ last_note }
     ensures { result ≡ entry finetune note }
 {
     let row = row_of(finetune);
@@ -23,7 +23,7 @@ fn entry(finetune: u32, note: usize) -> u32
 // Where a finetune's row is first at or below a period, or its last place.
 fn place_of(finetune: u32, row: [u32; ROW_LENGTH], period: u32) -> usize
     requires { row ≡ row_of finetune }
-    ensures { (result ≡ place_of finetune period) × (result ≤ lastNote) }
+    ensures { (result ≡ place_of finetune period) × (result ≤ last_note) }
 {
     let mut note = 0;
     while note < LAST_NOTE {

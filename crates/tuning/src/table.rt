@@ -1,7 +1,7 @@
 // The 16 rows of 36 periods, as printed. A row is chosen by a match, so that at most that row is copied: one array of all would be, at each use.
 ghost use Rattle.std.specs.Prelude.{◌≡◌};
-ghost use Rattle.tuning.specs.Ends.{endsOf};
-ghost use Rattle.tuning.specs.Table.{greatestOf, leastOf, row_of};
+ghost use Rattle.tuning.specs.Ends.{ends_of};
+ghost use Rattle.tuning.specs.Table.{greatest_of, least_of, row_of};
 
 // How many periods a row has, and its last.
 pub const ROW_LENGTH: usize = 36;
@@ -137,7 +137,7 @@ pub struct Ends {
 }
 
 fn ends_of(finetune: u32) -> Ends
-    ensures { result ≡ endsOf finetune }
+    ensures { result ≡ ends_of finetune }
 {
     match finetune {
         0 => Ends {
@@ -210,7 +210,7 @@ fn ends_of(finetune: u32) -> Ends
 
 // The greatest period of a row.
 pub fn greatest_of(finetune: u32) -> u32
-    ensures { result ≡ greatestOf finetune }
+    ensures { result ≡ greatest_of finetune }
 {
     let ends = ends_of(finetune);
     ends.first
@@ -218,7 +218,7 @@ pub fn greatest_of(finetune: u32) -> u32
 
 // The least.
 pub fn least_of(finetune: u32) -> u32
-    ensures { result ≡ leastOf finetune }
+    ensures { result ≡ least_of finetune }
 {
     let ends = ends_of(finetune);
     ends.last

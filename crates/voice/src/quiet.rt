@@ -1,6 +1,6 @@
 // Why a voice is quiet.
 ghost use Rattle.std.specs.Prelude.{◌≡◌};
-ghost use Rattle.voice.specs.Quiet.{readsZero, causeOf, causeNumber};
+ghost use Rattle.voice.specs.Quiet.{reads_zero, cause_of, cause_number};
 
 use crate::Voice;
 
@@ -17,7 +17,7 @@ pub enum Cause {
 
 // A cause's number.
 pub fn cause_number(cause: Cause) -> usize
-    ensures { result ≡ causeNumber cause }
+    ensures { result ≡ cause_number cause }
 {
     match cause {
         Cause::NoSample => 1,
@@ -31,7 +31,7 @@ pub fn cause_number(cause: Cause) -> usize
 
 // Whether the byte at an index reads 0.
 fn reads_zero(bytes: &[u8], index: usize) -> bool
-    ensures { result ≡ readsZero bytes.now index }
+    ensures { result ≡ reads_zero bytes.now index }
 {
     if index < 2 {
         return true;
@@ -44,7 +44,7 @@ fn reads_zero(bytes: &[u8], index: usize) -> bool
 
 // Why the voice is quiet, of its sample's bytes.
 pub fn why(voice: Voice, bytes: &[u8]) -> Cause
-    ensures { result ≡ causeOf bytes.now voice }
+    ensures { result ≡ cause_of bytes.now voice }
 {
     if voice.sample == 0 {
         return Cause::NoSample;

@@ -9,46 +9,46 @@ use lib.IntN.{ℤ, pos, negsuc, neg_ℤ, ◌*ℤ◌, negsuc-*ℤ-pos}
 use lib.Signed.{mag}
 use mir.Syntax.{w16, w32}
 use mir.Val.{Fits, SFits, to_z}
-use Rattle.laws.specs.Signed.{mag-mul, back, times-fits, times-is}
+use Rattle.laws.specs.Signed.{mag-mul, back, times_fits, times_is}
 use Rattle.common.specs.Limits.{loudest}
 use Rattle.runs.specs.Lines.{quarter16}
 use Rattle.voice.specs.Voice.{signed_of}
-use Rattle.voice_runs.specs.Runs.{weightOf, productOf}
+use Rattle.voice_runs.specs.Runs.{weight_of, product_of}
 
 -- ---- a signed byte r times a weight
 module _ (r : ℤ) (w : ℕ) (small : mag r < 128) (low : w ≤ 128) where
   pub product_small : mag (r *ℤ pos w) < quarter16
   product_small = mag-mul r w {b = 128} small low (lit< tt)
 
-  pub product-fits : SFits w16 (back r *ℤ to_z w16 w)
-  product-fits = times-fits r w (omega arith) (omega arith) (omega (arith, product_small))
+  pub product_fits : SFits w16 (back r *ℤ to_z w16 w)
+  product_fits = times_fits r w (omega arith) (omega arith) (omega (arith, product_small))
 
   product_value : back (back r *ℤ to_z w16 w) ≡ r *ℤ pos w
-  product_value = times-is r w (omega arith) (omega arith) (omega (arith, product_small))
+  product_value = times_is r w (omega arith) (omega arith) (omega (arith, product_small))
 
-  pub product-range : mag (back (back r *ℤ to_z w16 w)) < quarter16
-  product-range = subst (λ z. mag z < quarter16) (sym product_value) product_small
+  pub product_range : mag (back (back r *ℤ to_z w16 w)) < quarter16
+  product_range = subst (λ z. mag z < quarter16) (sym product_value) product_small
 
-  pub product_is : (b : ℕ) → r ≡ signed_of b → back (back r *ℤ to_z w16 w) ≡ productOf w b
-  unfolding productOf
+  pub product_is : (b : ℕ) → r ≡ signed_of b → back (back r *ℤ to_z w16 w) ≡ product_of w b
+  unfolding product_of
   product_is b e = product_value ∙ ap (λ t. t *ℤ pos w) e
 
-pub weight-low : (volume times : ℕ) → volume ≤ loudest → times ≤ 2 → volume * times ≤ 128
-weight-low volume times h k = mul-le-mul h k
+pub weight_low : (volume times : ℕ) → volume ≤ loudest → times ≤ 2 → volume * times ≤ 128
+weight_low volume times h k = mul-le-mul h k
 
-pub weight-fits : (volume times : ℕ) → volume ≤ loudest → times ≤ 2 → Fits w32 (volume * times)
-weight-fits volume times h k = record { fits = omega (arith, weight-low volume times h k) }
+pub weight_fits : (volume times : ℕ) → volume ≤ loudest → times ≤ 2 → Fits w32 (volume * times)
+weight_fits volume times h k = record { fits = omega (arith, weight_low volume times h k) }
 
 -- ---- times times
-neg-times : (k b : ℕ) → neg_ℤ (pos k) *ℤ pos b ≡ neg_ℤ (pos (k * b))
-neg-times zero b = rw (zero-mul b)
-neg-times (suc k) b = negsuc-*ℤ-pos k b
+neg_times : (k b : ℕ) → neg_ℤ (pos k) *ℤ pos b ≡ neg_ℤ (pos (k * b))
+neg_times zero b = rw (zero-mul b)
+neg_times (suc k) b = negsuc-*ℤ-pos k b
 
-pub times-times : (x : ℤ) (a b : ℕ) → (x *ℤ pos a) *ℤ pos b ≡ x *ℤ pos (a * b)
-times-times (pos m) a b = ap pos (mul_assoc m a b)
-times-times (negsuc m) a b = neg-times (suc m * a) b ∙ ap (λ k. neg_ℤ (pos k)) (mul_assoc (suc m) a b)
+pub times_times : (x : ℤ) (a b : ℕ) → (x *ℤ pos a) *ℤ pos b ≡ x *ℤ pos (a * b)
+times_times (pos m) a b = ap pos (mul_assoc m a b)
+times_times (negsuc m) a b = neg_times (suc m * a) b ∙ ap (λ k. neg_ℤ (pos k)) (mul_assoc (suc m) a b)
 
-pub weight-times : (quiet : Bool) (volume times : ℕ) → weightOf quiet volume * times ≡ weightOf quiet (volume * times)
-unfolding weightOf
-weight-times true volume times = zero-mul times
-weight-times false volume times = refl
+pub weight_times : (quiet : Bool) (volume times : ℕ) → weight_of quiet volume * times ≡ weight_of quiet (volume * times)
+unfolding weight_of
+weight_times true volume times = zero-mul times
+weight_times false volume times = refl

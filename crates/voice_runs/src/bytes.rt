@@ -4,8 +4,8 @@ ghost use Rattle.std.specs.Prelude.{◌≡◌, false, ◌+◌, ◌<◌, ◌≤�
 ghost use Rattle.std.specs.Int.Signed.{mag};
 ghost use Rattle.runs.specs.Lines.{Line, quarter16, parts};
 ghost use Rattle.runs.specs.Written.{Written};
-ghost use Rattle.runs.specs.Inverses.{mostFrames, Inverse};
-ghost use Rattle.voice_runs.specs.Runs.{weightOf, productOf, weighedAt, piece};
+ghost use Rattle.runs.specs.Inverses.{most_frames, Inverse};
+ghost use Rattle.voice_runs.specs.Runs.{weight_of, product_of, weighed_at, piece};
 
 use crate::inverses::UNIT;
 use runs::fills::{fill_byte, fill_zeros};
@@ -16,7 +16,7 @@ const PARTS: usize = 65536;
 // A byte read as signed, times a weight.
 fn weighed(byte: u8, weight: u32) -> i16
     requires { weight ≤ 128 }
-    ensures value { result ≡ productOf weight byte }
+    ensures value { result ≡ product_of weight byte }
     ensures range { mag result < quarter16 }
 {
     voice::signed(byte) * weight as i16
@@ -36,8 +36,8 @@ pub fn fill_line(
     requires line { Line bytes.now from growth count }
     requires pace { Inverse growth inverse }
     requires short { (weight ≤ 128) × (from < parts) × (at + count ≤ piece) }
-    requires room { at + count + mostFrames ≤ length cells.old }
-    ensures { Written (weighedAt weight bytes.now from growth) at count cells.old cells.new }
+    requires room { at + count + most_frames ≤ length cells.old }
+    ensures { Written (weighed_at weight bytes.now from growth) at count cells.old cells.new }
 {
     let step = PARTS * inverse;
     let mut due = at * UNIT + (PARTS - from + growth - 1) * inverse;
@@ -68,8 +68,8 @@ pub fn fill_run(
     requires line { Line bytes.now from growth count }
     requires pace { quiet ≡ false → Inverse growth inverse }
     requires short { (weight ≤ 128) × (from < parts) × (at + count ≤ piece) }
-    requires room { at + count + mostFrames ≤ length cells.old }
-    ensures { Written (weighedAt (weightOf quiet weight) bytes.now from growth) at count cells.old cells.new }
+    requires room { at + count + most_frames ≤ length cells.old }
+    ensures { Written (weighed_at (weight_of quiet weight) bytes.now from growth) at count cells.old cells.new }
 {
     if quiet {
         fill_zeros(count, cells, at);

@@ -2,7 +2,7 @@
 ghost use Rattle.std.specs.Prelude.{◌≡◌, [], ◌+◌, ◌*◌, ◌<◌, ◌≤◌, length};
 ghost use Rattle.common.specs.LimitFacts.{LegalPeriod};
 ghost use Rattle.runs.specs.Cells.{Holds};
-ghost use Rattle.voice.specs.Modules.{sampleWith};
+ghost use Rattle.voice.specs.Modules.{sample_with};
 ghost use Rattle.voice.specs.Frames.{steps_of};
 ghost use Rattle.voice.specs.LegalFacts.{LegalSound, LoopInside};
 ghost use Rattle.voice_runs.specs.Runs.{piece, spare, Paced, one_at, Spread};
@@ -91,13 +91,13 @@ pub fn spread(
     frames: usize,
     cells: &mut [i16],
 ) -> Voice
-    requires looping { LoopInside (sampleWith bytes.now extent) }
+    requires looping { LoopInside (sample_with bytes.now extent) }
     requires legal { LegalSound extent.end voice }
     requires pace { Paced voice.period pace }
     requires whole { (extent.end ≤ length bytes.now) × (0 < length bytes.now) }
     requires fits { (times ≤ 2) × (frames ≤ piece) × (frames + spare ≤ length cells.old) }
-    ensures moved { result ≡ steps_of (sampleWith bytes.now extent) frames voice }
-    ensures numbers { Holds (one_at times (sampleWith bytes.now extent) voice) frames cells.new }
+    ensures moved { result ≡ steps_of (sample_with bytes.now extent) frames voice }
+    ensures numbers { Holds (one_at times (sample_with bytes.now extent) voice) frames cells.new }
     ensures long { length cells.new ≡ length cells.old }
 {
     let weight = voice.volume as u32 * times;
@@ -113,10 +113,10 @@ pub fn spread(
 
 // The voice after the next frames, which nobody hears. No byte of the sample is read.
 pub fn pass(voice: Voice, extent: Extent, pace: Pace, frames: usize) -> Voice
-    requires looping { LoopInside (sampleWith [] extent) }
+    requires looping { LoopInside (sample_with [] extent) }
     requires legal { LegalSound extent.end voice }
     requires pace { Paced voice.period pace }
-    ensures { result ≡ steps_of (sampleWith [] extent) frames voice }
+    ensures { result ≡ steps_of (sample_with [] extent) frames voice }
 {
     let mut v = voice;
     let mut k = 0;

@@ -2,11 +2,11 @@
 ghost use Rattle.std.specs.Prelude.{◌≡◌, false, [], ◌+◌, ◌*◌, ◌/◌, ◌<◌, ◌≤◌};
 ghost use Rattle.runs.specs.Lines.{half64};
 ghost use Rattle.runs.specs.Inverses.{Inverse};
-ghost use Rattle.voice.specs.Voice.{silentOf, growthOf, fractions};
-ghost use Rattle.voice.specs.Modules.{sampleWith};
+ghost use Rattle.voice.specs.Voice.{silent_of, growth_of, fractions};
+ghost use Rattle.voice.specs.Modules.{sample_with};
 ghost use Rattle.voice.specs.Frames.{steps_of};
 ghost use Rattle.voice.specs.LegalFacts.{LegalSound};
-ghost use Rattle.voice_runs.specs.Runs.{Span, limitOf, longest, ahead_of, landOf, Follows, Paced};
+ghost use Rattle.voice_runs.specs.Runs.{Span, limit_of, longest, ahead_of, land_of, Follows, Paced};
 
 use crate::inverses::UNIT;
 use reader::Extent;
@@ -38,7 +38,7 @@ fn span(fraction: u32, pace: Pace, bytes: u32, left: usize) -> usize
 
 // Where the run that begins at index ends: bytes 0 and 1 are a run of their own.
 fn limit(index: u32, end: u32) -> u32
-    ensures { result ≡ limitOf index end }
+    ensures { result ≡ limit_of index end }
 {
     if index < 2 {
         if end < 2 {
@@ -95,10 +95,10 @@ pub fn follow(voice: Voice, extent: Extent, pace: Pace, left: usize) -> Line
 // The voice after a run whose last frame was so far past its index; a silent voice stays.
 fn land(voice: Voice, last: usize, growth: u32, extent: Extent) -> Voice
     requires legal { LegalSound extent.end voice }
-    requires growing { (growth ≡ growthOf voice.period) × (growth < fractions) }
+    requires growing { (growth ≡ growth_of voice.period) × (growth < fractions) }
     requires before { last < half64 }
-    requires inside { silentOf voice ≡ false → voice.index + last / fractions < extent.end }
-    ensures { result ≡ landOf (sampleWith [] extent) last voice }
+    requires inside { silent_of voice ≡ false → voice.index + last / fractions < extent.end }
+    ensures { result ≡ land_of (sample_with [] extent) last voice }
 {
     if voice.silent() {
         return voice;
@@ -111,10 +111,10 @@ fn land(voice: Voice, last: usize, growth: u32, extent: Extent) -> Voice
 // The voice after the first n frames of its line.
 pub fn after(voice: Voice, extent: Extent, growth: u32, line: Line, n: usize) -> Voice
     requires legal { LegalSound extent.end voice }
-    requires growing { (growth ≡ growthOf voice.period) × (growth < fractions) }
+    requires growing { (growth ≡ growth_of voice.period) × (growth < fractions) }
     requires line { Follows extent voice line.quiet line.growth line.count }
     requires some { (0 < n) × (n ≤ line.count) }
-    ensures { result ≡ steps_of (sampleWith [] extent) n voice }
+    ensures { result ≡ steps_of (sample_with [] extent) n voice }
 {
     land(
         voice,

@@ -8,5 +8,5 @@ returns : tie.Need-returns
 unfolding at_start
 returns c = refl
 
-pub at-start-spec : {M : Type 1} → statement M
-at-start-spec = tie.close (tie.spec returns)
+pub at_start_spec : {M : Type 1} → statement M
+at_start_spec = tie.close (tie.spec returns)

@@ -9,5 +9,5 @@ returns : tie.Need-returns
 unfolding awaits all all_from
 returns c = search rules
 
-pub awaits-spec : {M : Type 1} → statement M
-awaits-spec = tie.close (tie.spec returns)
+pub awaits_spec : {M : Type 1} → statement M
+awaits_spec = tie.close (tie.spec returns)

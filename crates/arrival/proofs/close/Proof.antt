@@ -1,18 +1,18 @@
 -- The tests are those of `closed`, in order.
-use Rattle.arrival.proofs.Laws.{close-end, close-kept, close-short}
+use Rattle.arrival.proofs.Laws.{close_end, close_kept, close_short}
 use borrow.Author.Rules.{rules}
 use Rattle.arrival.proofs.close.Statement.{statement}
 use Rattle.arrival.proofs.close.Tie as tie
 
 returns : tie.Need-returns
-returns c = search (close-kept, rules)
+returns c = search (close_kept, rules)
 
-returns-2 : tie.Need-returns-2
-returns-2 c = search (close-end, rules)
+returns_2 : tie.Need-returns-2
+returns_2 c = search (close_end, rules)
 
-returns-3 : tie.Need-returns-3
-returns-3 c = search (close-short, rules)
+returns_3 : tie.Need-returns-3
+returns_3 c = search (close_short, rules)
 
 pub close_spec : {M : Type 1} → statement M
 close_spec =
-    tie.close (tie.spec returns (λ c κs. search rules) returns-2 (λ c. search rules) (λ c κs. search rules) returns-3)
+    tie.close (tie.spec returns (λ c κs. search rules) returns_2 (λ c. search rules) (λ c κs. search rules) returns_3)

@@ -6,8 +6,8 @@ use Rattle.arrival.proofs.headed.Tie as tie
 returns : tie.Need-returns
 returns c = cc
 
-pub headed-spec : {M : Type 1} → statement M
-headed-spec =
+pub headed_spec : {M : Type 1} → statement M
+headed_spec =
     tie.close
     (tie.spec
     (λ c κs. search rules)

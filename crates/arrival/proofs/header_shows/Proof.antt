@@ -1,26 +1,26 @@
--- The tests are the lines of `headerShows`, in order.
-use Rattle.arrival.proofs.Laws.{header-version, header-other, header-ended, header-nine, header-none}
+-- The tests are the lines of `header_shows`, in order.
+use Rattle.arrival.proofs.Laws.{header_version, header_other, header_ended, header_nine, header_none}
 use borrow.Author.Rules.{rules}
 use Rattle.arrival.proofs.header_shows.Statement.{statement}
 use Rattle.arrival.proofs.header_shows.Tie as tie
 
 returns : tie.Need-returns
-returns c = search (header-version, rules)
+returns c = search (header_version, rules)
 
-returns-2 : tie.Need-returns-2
-returns-2 c = search (header-other, rules)
+returns_2 : tie.Need-returns-2
+returns_2 c = search (header_other, rules)
 
-returns-3 : tie.Need-returns-3
-returns-3 c = search (header-ended, rules)
+returns_3 : tie.Need-returns-3
+returns_3 c = search (header_ended, rules)
 
-returns-4 : tie.Need-returns-4
-returns-4 c = search (header-nine, rules)
+returns_4 : tie.Need-returns-4
+returns_4 c = search (header_nine, rules)
 
-returns-5 : tie.Need-returns-5
-returns-5 c = search (header-none, rules)
+returns_5 : tie.Need-returns-5
+returns_5 c = search (header_none, rules)
 
-pub header-shows-spec : {M : Type 1} → statement M
-header-shows-spec =
+pub header_shows_spec : {M : Type 1} → statement M
+header_shows_spec =
     tie.close
     (tie.spec
     (λ c κs. search rules)
@@ -29,10 +29,10 @@ header-shows-spec =
     returns
     (λ c κs. search rules)
     (λ c κs. search rules)
-    returns-2
+    returns_2
     (λ c. search rules)
     (λ c κs. search rules)
-    returns-3
+    returns_3
     (λ c κs. search rules)
-    returns-4
-    returns-5)
+    returns_4
+    returns_5)

@@ -1,12 +1,12 @@
--- The struct is that of `asTook` where no record is whole.
+-- The struct is that of `as_took` where no record is whole.
 use mathlib.Core.Path.{refl}
-use Rattle.arrival.specs.Answers.{asTook}
+use Rattle.arrival.specs.Answers.{as_took}
 use Rattle.arrival.proofs.holds.Statement.{statement}
 use Rattle.arrival.proofs.holds.Tie as tie
 
 returns : tie.Need-returns
-unfolding asTook
+unfolding as_took
 returns c = refl
 
-pub holds-spec : {M : Type 1} → statement M
-holds-spec = tie.close (tie.spec returns)
+pub holds_spec : {M : Type 1} → statement M
+holds_spec = tie.close (tie.spec returns)

@@ -1,13 +1,13 @@
--- The test is that of `knownVersion`.
+-- The test is that of `known_version`.
 -- Assumes nothing.
 use borrow.Author.Rules.{rules}
-use Rattle.records.specs.Format.{knownVersion}
+use Rattle.records.specs.Format.{known_version}
 use Rattle.arrival.proofs.known_version.Statement.{statement}
 use Rattle.arrival.proofs.known_version.Tie as tie
 
 returns : tie.Need-returns
-unfolding knownVersion
+unfolding known_version
 returns c = search rules
 
-pub known-version-spec : {M : Type 1} → statement M
-known-version-spec = tie.close (tie.spec (λ c. search rules) (λ c. search rules) (λ c κs. search rules) returns)
+pub known_version_spec : {M : Type 1} → statement M
+known_version_spec = tie.close (tie.spec (λ c. search rules) (λ c. search rules) (λ c κs. search rules) returns)

@@ -12,8 +12,8 @@ invariant-loop run laid₀ i₀ laid i = Laying laid₀ run laid i
 abbrev decreases-loop : tie.decreases-loop
 decreases-loop run laid₀ i₀ laid i = length run - i
 
-pub lay-spec : {M : Type 1} → statement M
-lay-spec =
+pub lay_spec : {M : Type 1} → statement M
+lay_spec =
     tie.close
     (tie.spec
     invariant-loop

@@ -1,5 +1,5 @@
 -- The tests are those of `step`, in order.
-use Rattle.arrival.proofs.Laws.{keep-few, keep-records, keep-room, ready-few, ready-next, ready-room, ready-sum, step-header, step_kept, step_left, step-over, step-record}
+use Rattle.arrival.proofs.Laws.{keep_few, keep_records, keep_room, ready_few, ready_next, ready_room, ready_sum, step_header, step_kept, step_left, step_over, step_record}
 use borrow.Author.Rules.{rules}
 use Rattle.arrival.proofs.step.Statement.{statement}
 use Rattle.arrival.proofs.step.Tie as tie
@@ -7,35 +7,35 @@ use Rattle.arrival.proofs.step.Tie as tie
 returns : tie.Need-returns
 returns c = search (step_kept, rules)
 
-is-ended-requires : tie.Need-is-ended-requires
-is-ended-requires c κs = search (ready-few, rules)
+is_ended_requires : tie.Need-is-ended-requires
+is_ended_requires c κs = search (ready_few, rules)
 
-add-faulty : tie.Need-overflow-add-faulty
-add-faulty c = search (ready-sum, rules)
+add_faulty : tie.Need-overflow-add-faulty
+add_faulty c = search (ready_sum, rules)
 
-add-faulty-2 : tie.Need-overflow-add-faulty-2
-add-faulty-2 c = search (ready-next, rules)
+add_faulty_2 : tie.Need-overflow-add-faulty-2
+add_faulty_2 c = search (ready_next, rules)
 
-returns-2 : tie.Need-returns-2
-returns-2 c = search (step-over, rules)
+returns_2 : tie.Need-returns-2
+returns_2 c = search (step_over, rules)
 
-keep-requires : tie.Need-keep-requires
-keep-requires c κs = search (ready-room, rules)
+keep_requires : tie.Need-keep-requires
+keep_requires c κs = search (ready_room, rules)
 
-header-step-requires : tie.Need-header-step-requires
-header-step-requires c κs = search (keep-few, rules)
+header_step_requires : tie.Need-header-step-requires
+header_step_requires c κs = search (keep_few, rules)
 
-returns-3 : tie.Need-returns-3
-returns-3 c = search (step-header, rules)
+returns_3 : tie.Need-returns-3
+returns_3 c = search (step_header, rules)
 
-returns-4 : tie.Need-returns-4
-returns-4 c = search (step_left, rules)
+returns_4 : tie.Need-returns-4
+returns_4 c = search (step_left, rules)
 
-record-step-requires : tie.Need-record-step-requires
-record-step-requires c κs = search (keep-few, keep-room, keep-records, rules)
+record_step_requires : tie.Need-record-step-requires
+record_step_requires c κs = search (keep_few, keep_room, keep_records, rules)
 
-returns-5 : tie.Need-returns-5
-returns-5 c = search (step-record, rules)
+returns_5 : tie.Need-returns-5
+returns_5 c = search (step_record, rules)
 
 pub step_spec : {M : Type 1} → statement M
 step_spec =
@@ -43,18 +43,18 @@ step_spec =
     (tie.spec
     (λ c κs. search rules)
     returns
-    is-ended-requires
-    add-faulty
-    add-faulty-2
+    is_ended_requires
+    add_faulty
+    add_faulty_2
     (λ c κs. search rules)
     (λ c κs. search rules)
-    returns-2
-    keep-requires
-    header-step-requires
+    returns_2
+    keep_requires
+    header_step_requires
     (λ c κs. search rules)
-    returns-3
+    returns_3
     (λ c κs. search rules)
     (λ c κs. search rules)
-    returns-4
-    record-step-requires
-    returns-5)
+    returns_4
+    record_step_requires
+    returns_5)

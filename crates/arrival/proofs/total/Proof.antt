@@ -1,17 +1,17 @@
 -- The first number is read of the kept bytes while the header is open, and held after it.
-use Rattle.arrival.proofs.Laws.{total-after, total-heading}
+use Rattle.arrival.proofs.Laws.{total_after, total_heading}
 use borrow.Author.Rules.{rules}
 use Rattle.arrival.proofs.total.Statement.{statement}
 use Rattle.arrival.proofs.total.Tie as tie
 
 returns : tie.Need-returns
-returns c = search (total-heading, rules)
+returns c = search (total_heading, rules)
 
-returns-2 : tie.Need-returns-2
-returns-2 c = search (total-after, rules)
+returns_2 : tie.Need-returns-2
+returns_2 c = search (total_after, rules)
 
-pub total-spec : {M : Type 1} → statement M
-total-spec =
+pub total_spec : {M : Type 1} → statement M
+total_spec =
     tie.close
     (tie.spec
     (λ c κs. search rules)
@@ -20,4 +20,4 @@ total-spec =
     returns
     (λ c. search rules)
     (λ c. search rules)
-    returns-2)
+    returns_2)

@@ -1,14 +1,14 @@
--- The kept bytes with the run are those that coming one by one would leave (`ahead-whole`).
+-- The kept bytes with the run are those that coming one by one would leave (`ahead_whole`).
 use borrow.Author.Rules.{rules}
-use Rattle.arrival.proofs.Laws.{awaited-more, ahead-few, ahead-whole}
+use Rattle.arrival.proofs.Laws.{awaited_more, ahead_few, ahead_whole}
 use Rattle.arrival.proofs.with_record.Statement.{statement}
 use Rattle.arrival.proofs.with_record.Tie as tie
 
-end-shows-requires : tie.Need-end-shows-requires
-end-shows-requires c κs = search (ahead-few, rules)
+end_shows_requires : tie.Need-end-shows-requires
+end_shows_requires c κs = search (ahead_few, rules)
 
 returns : tie.Need-returns
-returns c = search (ahead-whole, rules)
+returns c = search (ahead_whole, rules)
 
-pub with-record-spec : {M : Type 1} → statement M
-with-record-spec = tie.close (tie.spec (λ c κs. search rules) (λ c κs. search (awaited-more, rules)) end-shows-requires returns)
+pub with_record_spec : {M : Type 1} → statement M
+with_record_spec = tie.close (tie.spec (λ c κs. search rules) (λ c κs. search (awaited_more, rules)) end_shows_requires returns)

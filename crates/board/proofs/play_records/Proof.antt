@@ -1,7 +1,7 @@
 -- The loop: the ticks that are played, followed by those of the records that are left, are the stream's from the first on (`Turning`).
 use Rattle.machine.specs.Carries.{itself}
-use Rattle.board.specs.Turning.{good-least, Turning, turning-layout, turning-few, turning-low, turning-within, turning-narrow, turning-next, turning-count, turning-some, turning-ready, turning-long, turning-more}
-use Rattle.board.proofs.Turns.{ruled, turning-begin, ended-all, ended-full}
+use Rattle.board.specs.Turning.{good_least, Turning, turning_layout, turning_few, turning_low, turning_within, turning_narrow, turning_next, turning_count, turning_some, turning_ready, turning_long, turning_more}
+use Rattle.board.proofs.Turns.{ruled, turning_begin, ended_all, ended_full}
 use Prim.Native.Nat.{◌-◌}
 use lib.IntN.{ℤ}
 use borrow.Author.Rules.{rules}
@@ -15,34 +15,34 @@ invariant-loop layout file stream first out₀ extents last keeping count machin
 abbrev decreases-loop : tie.decreases-loop
 decreases-loop layout file stream first out₀ extents last keeping count machine₀ registers₀ from₀ at₀ i₀ out machine registers from at i = count - i
 
-loop-holds : tie.Need-loop-init invariant-loop decreases-loop
-loop-holds c =
-    turning-begin _ _ _ _ _ _ _ _ _ _ _ _ c.before.before.before.before.before.extents.ensures (search rules) (search (c.before.before.before.before.before.before.before.before.well-formed.1.1.1.1, rules)) c.before.before.lead.ensures
+loop_holds : tie.Need-loop-init invariant-loop decreases-loop
+loop_holds c =
+    turning_begin _ _ _ _ _ _ _ _ _ _ _ _ c.before.before.before.before.before.extents.ensures (search rules) (search (c.before.before.before.before.before.before.before.before.well-formed.1.1.1.1, rules)) c.before.before.lead.ensures
 
-pub play-records-spec : {M : Type 1} → statement M
-play-records-spec =
+pub play_records_spec : {M : Type 1} → statement M
+play_records_spec =
     tie.close
     (tie.spec
     invariant-loop
     decreases-loop
     (λ c κs. search rules)
     (λ c. search rules)
-    (λ c κs. search (good-least, rules))
+    (λ c κs. search (good_least, rules))
     (λ c κs. search rules)
-    loop-holds
-    (λ c κs. search (turning-few, rules))
-    (λ c. search (turning-within, turning-narrow, rules))
+    loop_holds
+    (λ c κs. search (turning_few, rules))
+    (λ c. search (turning_within, turning_narrow, rules))
     (λ c. search rules)
     (λ c. search rules)
     (λ c. search rules)
-    (λ c κs. (search (turning-layout, rules), (search (turning-ready {A = ℤ} itself, rules), (search (turning-some, rules), search (turning-low, rules)))))
+    (λ c κs. (search (turning_layout, rules), (search (turning_ready {A = ℤ} itself, rules), (search (turning_some, rules), search (turning_low, rules)))))
     (λ c κs. search rules)
-    (λ c. search (turning-long, rules))
-    (λ c. search (ended-full, rules))
-    (λ c. search (turning-next, rules))
-    (λ c. search (turning-count, rules))
+    (λ c. search (turning_long, rules))
+    (λ c. search (ended_full, rules))
+    (λ c. search (turning_next, rules))
+    (λ c. search (turning_count, rules))
     (λ c. search rules)
-    (λ c. search (turning-more, rules))
+    (λ c. search (turning_more, rules))
     (λ c κs. search rules)
     (λ c. search rules)
-    (λ c. search (ended-all, rules)))
+    (λ c. search (ended_all, rules)))

@@ -3,8 +3,8 @@ use borrow.Author.Rules.{rules}
 use Rattle.board_cells.proofs.arrival_of.Statement.{statement}
 use Rattle.board_cells.proofs.arrival_of.Tie as tie
 
-pub arrival-of-spec : {M : Type 1} → statement M
-arrival-of-spec =
+pub arrival_of_spec : {M : Type 1} → statement M
+arrival_of_spec =
     tie.close
     (tie.spec
     (λ c. search rules)

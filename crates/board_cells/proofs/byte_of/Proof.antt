@@ -5,9 +5,9 @@ use borrow.Author.Rules.{rules}
 use Rattle.board_cells.proofs.byte_of.Statement.{statement}
 use Rattle.board_cells.proofs.byte_of.Tie as tie
 
-pub byte-of-spec : {M : Type 1} → statement M
+pub byte_of_spec : {M : Type 1} → statement M
 unfolding byte_of
-byte-of-spec =
+byte_of_spec =
     tie.close
     (tie.spec
     (λ c. search rules)

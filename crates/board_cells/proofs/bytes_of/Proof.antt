@@ -1,20 +1,20 @@
 -- The loop: the bytes are read up to one.
 use Rattle.laws.specs.Each.{Filled, fills}
 use Prim.Native.Nat.{◌-◌, ◌≤◌}
-use Rattle.arrival.specs.Arrive.{keptBytes}
-use Rattle.board_cells.specs.Cells.{byteIn}
+use Rattle.arrival.specs.Arrive.{kept_bytes}
+use Rattle.board_cells.specs.Cells.{byte_in}
 use borrow.Author.Rules.{rules}
 use Rattle.board_cells.proofs.bytes_of.Statement.{statement}
 use Rattle.board_cells.proofs.bytes_of.Tie as tie
 
 abbrev invariant-loop : tie.invariant-loop
-invariant-loop cells bytes₀ i₀ bytes i = (i ≤ keptBytes) × Filled (byteIn cells) 0 keptBytes bytes i
+invariant-loop cells bytes₀ i₀ bytes i = (i ≤ kept_bytes) × Filled (byte_in cells) 0 kept_bytes bytes i
 
 abbrev decreases-loop : tie.decreases-loop
-decreases-loop cells bytes₀ i₀ bytes i = keptBytes - i
+decreases-loop cells bytes₀ i₀ bytes i = kept_bytes - i
 
-pub bytes-of-spec : {M : Type 1} → statement M
-bytes-of-spec =
+pub bytes_of_spec : {M : Type 1} → statement M
+bytes_of_spec =
     tie.close
     (tie.spec
     invariant-loop

@@ -12,8 +12,8 @@ invariant-loop voices cells₀ i₀ cells i = VoicesWritten voices cells₀ cell
 abbrev decreases-loop : tie.decreases-loop
 decreases-loop voices cells₀ i₀ cells i = width - i
 
-pub cells-of-spec : {M : Type 1} → statement M
-cells-of-spec =
+pub cells_of_spec : {M : Type 1} → statement M
+cells_of_spec =
     tie.close
     (tie.spec
     invariant-loop

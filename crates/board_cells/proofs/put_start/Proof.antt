@@ -3,8 +3,8 @@ use borrow.Author.Rules.{rules}
 use Rattle.board_cells.proofs.put_start.Statement.{statement}
 use Rattle.board_cells.proofs.put_start.Tie as tie
 
-pub put-start-spec : {M : Type 1} → statement M
-put-start-spec =
+pub put_start_spec : {M : Type 1} → statement M
+put_start_spec =
     tie.close
     (tie.spec
     (λ c κs. search rules)

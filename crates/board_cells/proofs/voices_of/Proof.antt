@@ -3,20 +3,20 @@ use Rattle.laws.specs.Each.{Filled, fills}
 use Prim.Native.Nat.{◌-◌, ◌≤◌}
 use Rattle.common.specs.Limits.{width}
 use Rattle.voice.specs.Frames.{blank}
-use Rattle.cells.specs.Cells.{voiceOf}
-use Rattle.board_cells.specs.Cells.{voicePlace}
+use Rattle.cells.specs.Cells.{voice_of}
+use Rattle.board_cells.specs.Cells.{voice_place}
 use borrow.Author.Rules.{rules}
 use Rattle.board_cells.proofs.voices_of.Statement.{statement}
 use Rattle.board_cells.proofs.voices_of.Tie as tie
 
 abbrev invariant-loop : tie.invariant-loop
-invariant-loop cells voices₀ i₀ voices i = (i ≤ width) × Filled (λ j. voiceOf cells (voicePlace j)) blank width voices i
+invariant-loop cells voices₀ i₀ voices i = (i ≤ width) × Filled (λ j. voice_of cells (voice_place j)) blank width voices i
 
 abbrev decreases-loop : tie.decreases-loop
 decreases-loop cells voices₀ i₀ voices i = width - i
 
-pub voices-of-spec : {M : Type 1} → statement M
-voices-of-spec =
+pub voices_of_spec : {M : Type 1} → statement M
+voices_of_spec =
     tie.close
     (tie.spec
     invariant-loop

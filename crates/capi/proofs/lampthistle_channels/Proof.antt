@@ -5,8 +5,8 @@ use Rattle.reader.specs.declared.Layout.{Layout}
 use Rattle.capi.proofs.lampthistle_channels.Statement.{statement}
 use Rattle.capi.proofs.lampthistle_channels.Tie as tie
 
-pub lampthistle-channels-spec : {M : Type 1} → statement M
-lampthistle-channels-spec =
+pub lampthistle_channels_spec : {M : Type 1} → statement M
+lampthistle_channels_spec =
     tie.close
     (tie.spec
     (λ c κs. search rules)

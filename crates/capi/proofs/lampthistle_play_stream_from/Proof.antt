@@ -7,6 +7,6 @@ use Rattle.capi.proofs.lampthistle_play_stream_from.Tie as tie
 returns : tie.Need-returns
 returns c = (search (answered, rules), search (left, rules))
 
-pub lampthistle-play-stream-from-spec : {M : Type 1} → statement M
-lampthistle-play-stream-from-spec =
+pub lampthistle_play_stream_from_spec : {M : Type 1} → statement M
+lampthistle_play_stream_from_spec =
     tie.close (tie.spec (λ c κs. search rules) (λ c κs. search rules) (λ c. search rules) returns)

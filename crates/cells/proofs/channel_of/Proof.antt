@@ -3,8 +3,8 @@ use borrow.Author.Rules.{rules}
 use Rattle.cells.proofs.channel_of.Statement.{statement}
 use Rattle.cells.proofs.channel_of.Tie as tie
 
-pub channel-of-spec : {M : Type 1} → statement M
-channel-of-spec =
+pub channel_of_spec : {M : Type 1} → statement M
+channel_of_spec =
     tie.close
     (tie.spec
     (λ c. search rules)

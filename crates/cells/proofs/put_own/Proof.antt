@@ -4,8 +4,8 @@ use borrow.Author.Rules.{rules}
 use Rattle.cells.proofs.put_own.Statement.{statement}
 use Rattle.cells.proofs.put_own.Tie as tie
 
-pub put-own-spec : {M : Type 1} → statement M
-put-own-spec =
+pub put_own_spec : {M : Type 1} → statement M
+put_own_spec =
     tie.close
     (tie.spec
     (λ c κs. search rules)

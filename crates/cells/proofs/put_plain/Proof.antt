@@ -3,8 +3,8 @@ use borrow.Author.Rules.{rules}
 use Rattle.cells.proofs.put_plain.Statement.{statement}
 use Rattle.cells.proofs.put_plain.Tie as tie
 
-pub put-plain-spec : {M : Type 1} → statement M
-put-plain-spec =
+pub put_plain_spec : {M : Type 1} → statement M
+put_plain_spec =
     tie.close
     (tie.spec
     (λ c. search rules)

@@ -1,13 +1,13 @@
--- `decoder::known_version` meets its contract. The test is that of `knownVersion`.
+-- `decoder::known_version` meets its contract. The test is that of `known_version`.
 -- Assumes nothing.
-use Rattle.records.specs.Format.{knownVersion}
+use Rattle.records.specs.Format.{known_version}
 use borrow.Author.Rules.{rules}
 use Rattle.decoder.proofs.known_version.Statement.{statement}
 use Rattle.decoder.proofs.known_version.Tie as tie
 
 returns : tie.Need-returns
-unfolding knownVersion
+unfolding known_version
 returns c = search rules
 
-pub known-version-spec : {M : Type 1} → statement M
-known-version-spec = tie.close (tie.spec returns)
+pub known_version_spec : {M : Type 1} → statement M
+known_version_spec = tie.close (tie.spec returns)

@@ -10,9 +10,9 @@ returns : tie.Need-returns
 unfolding shift
 returns c = search (tests, rules)
 
-returns-2 : tie.Need-returns-2
+returns_2 : tie.Need-returns-2
 unfolding shift
-returns-2 c = search (tests, rules)
+returns_2 c = search (tests, rules)
 
-pub shift-spec : {M : Type 1} → statement M
-shift-spec = tie.close (tie.spec returns returns-2)
+pub shift_spec : {M : Type 1} → statement M
+shift_spec = tie.close (tie.spec returns returns_2)

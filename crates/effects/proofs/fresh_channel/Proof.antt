@@ -3,5 +3,5 @@ use borrow.Author.Rules.{rules}
 use Rattle.effects.proofs.fresh_channel.Statement.{statement}
 use Rattle.effects.proofs.fresh_channel.Tie as tie
 
-pub fresh-channel-spec : {M : Type 1} → statement M
-fresh-channel-spec = tie.close (tie.spec (λ c κs. search rules) (λ c. cc))
+pub fresh_channel_spec : {M : Type 1} → statement M
+fresh_channel_spec = tie.close (tie.spec (λ c κs. search rules) (λ c. cc))

@@ -1,14 +1,14 @@
 -- A remainder that the tick does not begin with is left out (`Begun`).
-use Rattle.feed.proofs.Laws.{begun-off, begun-on}
+use Rattle.feed.proofs.Laws.{begun_off, begun_on}
 use borrow.Author.Rules.{rules}
 use Rattle.feed.proofs.begun.Statement.{statement}
 use Rattle.feed.proofs.begun.Tie as tie
 
 returns : tie.Need-returns
-returns c = search (begun-on, rules)
+returns c = search (begun_on, rules)
 
-returns-2 : tie.Need-returns-2
-returns-2 c = search (begun-off, rules)
+returns_2 : tie.Need-returns-2
+returns_2 c = search (begun_off, rules)
 
-pub begun-spec : {M : Type 1} → statement M
-begun-spec = tie.close (tie.spec (λ c κs. search rules) returns returns-2)
+pub begun_spec : {M : Type 1} → statement M
+begun_spec = tie.close (tie.spec (λ c κs. search rules) returns returns_2)

@@ -1,30 +1,30 @@
 -- Refusals are those of the lines, in order; a legal board is sound, so that its bytes may be taken.
-use Rattle.feed.proofs.Calls.{feed-fed, feed-refused, judged-few, judged-number, judged-sound}
+use Rattle.feed.proofs.Calls.{feed_fed, feed_refused, judged_few, judged_number, judged_sound}
 use borrow.Author.Rules.{rules}
 use Rattle.feed.proofs.board_feed.Statement.{statement}
 use Rattle.feed.proofs.board_feed.Tie as tie
 
 returns : tie.Need-returns
-returns c = search (feed-refused, rules)
+returns c = search (feed_refused, rules)
 
-extents-requires : tie.Need-extents-requires
-extents-requires c κs = search (judged-number, rules)
+extents_requires : tie.Need-extents-requires
+extents_requires c κs = search (judged_number, rules)
 
-feed-bytes-requires : tie.Need-feed-bytes-requires
-feed-bytes-requires c κs = (search (judged-sound, rules), search (judged-few, rules))
+feed_bytes_requires : tie.Need-feed-bytes-requires
+feed_bytes_requires c κs = (search (judged_sound, rules), search (judged_few, rules))
 
-returns-2 : tie.Need-returns-2
-returns-2 c = search (feed-fed, rules)
+returns_2 : tie.Need-returns-2
+returns_2 c = search (feed_fed, rules)
 
-pub board-feed-spec : {M : Type 1} → statement M
-board-feed-spec =
+pub board_feed_spec : {M : Type 1} → statement M
+board_feed_spec =
     tie.close
     (tie.spec
     (λ c κs. search rules)
     (λ c κs. search rules)
     (λ c κs. search rules)
     returns
-    extents-requires
-    feed-bytes-requires
+    extents_requires
+    feed_bytes_requires
     (λ c. search rules)
-    returns-2)
+    returns_2)

@@ -2,7 +2,7 @@
 use Prim.Native.Nat.{◌-◌}
 use lib.ListN.{length}
 use borrow.Author.Rules.{rules}
-use Rattle.feed.proofs.Turns.{Taking, taking-none, taking-sound, taking-within, taking-narrow, taking-next, taking-few, taking-start, taken-all, full-long, taken-full, taking-more, after-few, after-long, after-faulty}
+use Rattle.feed.proofs.Turns.{Taking, taking_none, taking_sound, taking_within, taking_narrow, taking_next, taking_few, taking_start, taken_all, full_long, taken_full, taking_more, after_few, after_long, after_faulty}
 use Rattle.feed.proofs.feed_bytes.Statement.{statement}
 use Rattle.feed.proofs.feed_bytes.Tie as tie
 
@@ -12,27 +12,27 @@ invariant-loop layout file extents arrival bytes out₀ p₀ w₀ at₀ i₀ out
 abbrev decreases-loop : tie.decreases-loop
 decreases-loop layout file extents arrival bytes out₀ p₀ w₀ at₀ i₀ out p w at i = length bytes - i
 
-pub feed-bytes-spec : {M : Type 1} → statement M
-feed-bytes-spec =
+pub feed_bytes_spec : {M : Type 1} → statement M
+feed_bytes_spec =
     tie.close
     (tie.spec
     invariant-loop
     decreases-loop
-    (λ c. search (taking-none, rules))
-    (λ c. search (taking-within, taking-narrow, rules))
-    (λ c. search (taking-within, taking-narrow, rules))
-    (λ c. search (taking-within, taking-narrow, rules))
-    (λ c. search (taking-within, taking-narrow, rules))
-    (λ c κs. search (taking-sound, rules))
-    (λ c κs. (search (taking-start, rules), search (taking-few, rules)))
-    (λ c. search (full-long, rules))
-    (λ c. search (taken-full, rules))
-    (λ c. search (taking-next, rules))
-    (λ c κs. (search (taking-start, rules), search (after-few, rules)))
-    (λ c. search (after-long, rules))
-    (λ c. search (after-faulty, rules))
-    (λ c. search (taking-more, rules))
-    (λ c. search (taking-more, rules))
-    (λ c κs. (search (taking-start, rules), search (taking-few, rules)))
+    (λ c. search (taking_none, rules))
+    (λ c. search (taking_within, taking_narrow, rules))
+    (λ c. search (taking_within, taking_narrow, rules))
+    (λ c. search (taking_within, taking_narrow, rules))
+    (λ c. search (taking_within, taking_narrow, rules))
+    (λ c κs. search (taking_sound, rules))
+    (λ c κs. (search (taking_start, rules), search (taking_few, rules)))
+    (λ c. search (full_long, rules))
+    (λ c. search (taken_full, rules))
+    (λ c. search (taking_next, rules))
+    (λ c κs. (search (taking_start, rules), search (after_few, rules)))
+    (λ c. search (after_long, rules))
+    (λ c. search (after_faulty, rules))
+    (λ c. search (taking_more, rules))
+    (λ c. search (taking_more, rules))
+    (λ c κs. (search (taking_start, rules), search (taking_few, rules)))
     (λ c. search rules)
-    (λ c. search (taken-all, rules)))
+    (λ c. search (taken_all, rules)))

@@ -1,30 +1,30 @@
 -- The module's verdict comes first, then the test of 14.
-use Rattle.reader.specs.Accept.{accepted-by}
-use Rattle.feed.proofs.Laws.{judged-illegal, judged-legal, judged-module}
+use Rattle.reader.specs.Accept.{accepted_by}
+use Rattle.feed.proofs.Laws.{judged_illegal, judged_legal, judged_module}
 use borrow.Author.Rules.{rules}
 use Rattle.feed.proofs.judge_board.Statement.{statement}
 use Rattle.feed.proofs.judge_board.Tie as tie
 
 returns : tie.Need-returns
-returns c = search (judged-module, rules)
+returns c = search (judged_module, rules)
 
-legal-board-requires : tie.Need-legal-board-requires
-legal-board-requires c κs = search (accepted-by, rules)
+legal_board_requires : tie.Need-legal-board-requires
+legal_board_requires c κs = search (accepted_by, rules)
 
-returns-2 : tie.Need-returns-2
-returns-2 c = search (judged-legal, rules)
+returns_2 : tie.Need-returns-2
+returns_2 c = search (judged_legal, rules)
 
-returns-3 : tie.Need-returns-3
-returns-3 c = search (judged-illegal, rules)
+returns_3 : tie.Need-returns-3
+returns_3 c = search (judged_illegal, rules)
 
-pub judge-board-spec : {M : Type 1} → statement M
-judge-board-spec =
+pub judge_board_spec : {M : Type 1} → statement M
+judge_board_spec =
     tie.close
     (tie.spec
     (λ c κs. search rules)
     returns
-    legal-board-requires
+    legal_board_requires
     (λ c κs. search rules)
-    returns-2
+    returns_2
     (λ c κs. search rules)
-    returns-3)
+    returns_3)

@@ -6,19 +6,19 @@ use Rattle.laws.specs.Each.{Filled, fills}
 use Rattle.common.specs.Limits.{width}
 use Rattle.ticks.specs.Commands.{nothing}
 use Rattle.voice.specs.Frames.{blank}
-use Rattle.feed.specs.Feed.{registerOf}
-use Rattle.feed.proofs.Laws.{registers-end}
+use Rattle.feed.specs.Feed.{register_of}
+use Rattle.feed.proofs.Laws.{registers_end}
 use Rattle.feed.proofs.registers.Statement.{statement}
 use Rattle.feed.proofs.registers.Tie as tie
 
 abbrev invariant-loop : tie.invariant-loop
-invariant-loop voices rs₀ i₀ rs i = (i ≤ width) × Filled (λ j. registerOf (get_or voices j blank)) nothing width rs i
+invariant-loop voices rs₀ i₀ rs i = (i ≤ width) × Filled (λ j. register_of (get_or voices j blank)) nothing width rs i
 
 abbrev decreases-loop : tie.decreases-loop
 decreases-loop voices rs₀ i₀ rs i = width - i
 
-pub registers-spec : {M : Type 1} → statement M
-registers-spec =
+pub registers_spec : {M : Type 1} → statement M
+registers_spec =
     tie.close
     (tie.spec
     invariant-loop
@@ -33,4 +33,4 @@ registers-spec =
     (λ c. search rules)
     (λ c. search rules)
     (λ c. search (fills, rules))
-    (λ c. search (registers-end, rules)))
+    (λ c. search (registers_end, rules)))

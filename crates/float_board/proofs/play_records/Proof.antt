@@ -1,6 +1,6 @@
 -- The loop: the ticks that are played, followed by those of the records that are left, are the stream's from the first on, on the machine that plays floats (`Sounding`).
-use Rattle.board.specs.Turning.{good-least, turning-few, turning-within, turning-narrow, turning-next, turning-count}
-use Rattle.float_board.proofs.Turns.{Sounding, sounding-begin, sounding-due, sounding-long, sounding-more, ended-all, ended-full}
+use Rattle.board.specs.Turning.{good_least, turning_few, turning_within, turning_narrow, turning_next, turning_count}
+use Rattle.float_board.proofs.Turns.{Sounding, sounding_begin, sounding_due, sounding_long, sounding_more, ended_all, ended_full}
 use Prim.Native.Nat.{◌-◌}
 use borrow.Author.Rules.{rules}
 use Rattle.float_board.proofs.play_records.Statement.{statement}
@@ -13,46 +13,46 @@ invariant-loop layout file stream first sides out₀ mixed₀ extents keeping la
 abbrev decreases-loop : tie.decreases-loop
 decreases-loop layout file stream first sides out₀ mixed₀ extents keeping last count machine₀ from₀ registers₀ at₀ i₀ out mixed machine from registers at i = count - i
 
-loop-holds : tie.Need-loop-init invariant-loop decreases-loop
-loop-holds c =
+loop_holds : tie.Need-loop-init invariant-loop decreases-loop
+loop_holds c =
     let z = c.before.before.before.before.before.before.before.before.before in
-    sounding-begin _ _ _ _ _ _ _ _ _ _ _ _ _ _ (search (z.requires, rules)) c.before.before.before.before.before.extents.ensures (search rules) (search (z.well-formed.1.1.1.1, rules)) c.before.before.lead.ensures
+    sounding_begin _ _ _ _ _ _ _ _ _ _ _ _ _ _ (search (z.requires, rules)) c.before.before.before.before.before.extents.ensures (search rules) (search (z.well-formed.1.1.1.1, rules)) c.before.before.lead.ensures
 
 returns : tie.Need-returns invariant-loop decreases-loop
 returns c =
     let r = c.before.before.before.before.before.before.before.before.before in
     let l = r.before.before in
     let b = l.before.before.before in
-    ended-full l.loop.invariant _ b.lead.ensures b.before.before.keeps.ensures _ c.after-ticks.ensures r.before.loop-test.true _ r.read-record.ensures _ _ _ _ c.before.before.before.before.play-tick.ensures.0 c.before.if1.true
+    ended_full l.loop.invariant _ b.lead.ensures b.before.before.keeps.ensures _ c.after-ticks.ensures r.before.loop-test.true _ r.read-record.ensures _ _ _ _ c.before.before.before.before.play-tick.ensures.0 c.before.if1.true
 
-loop-again : tie.Need-loop-preserved invariant-loop decreases-loop
-loop-again c =
+loop_again : tie.Need-loop-preserved invariant-loop decreases-loop
+loop_again c =
     let r = c.before.before.before.before.before.before.before.before.before.before in
-    sounding-more r.before.before.loop.invariant r.before.loop-test.true _ r.read-record.ensures _ _ _ _ c.before.before.before.before.before.play-tick.ensures.0 c.before.before.if1.false
+    sounding_more r.before.before.loop.invariant r.before.loop-test.true _ r.read-record.ensures _ _ _ _ c.before.before.before.before.before.play-tick.ensures.0 c.before.before.if1.false
 
-returns-2 : tie.Need-returns-2 invariant-loop decreases-loop
-returns-2 c =
+returns_2 : tie.Need-returns-2 invariant-loop decreases-loop
+returns_2 c =
     let l = c.before.before in
     let b = l.before.before.before in
-    ended-all l.loop.invariant _ b.lead.ensures b.before.before.keeps.ensures _ c.after-ticks2.ensures c.before.loop-test.false
+    ended_all l.loop.invariant _ b.lead.ensures b.before.before.keeps.ensures _ c.after-ticks2.ensures c.before.loop-test.false
 
-pub play-records-spec : {M : Type 1} → statement M
-play-records-spec =
+pub play_records_spec : {M : Type 1} → statement M
+play_records_spec =
     tie.close
     (tie.spec
     invariant-loop
     decreases-loop
-    (λ c κs. search rules) (λ c κs. search (good-least, rules)) (λ c. search rules) (λ c κs. search rules)
-    loop-holds
-    (λ c κs. search (turning-few, rules))
-    (λ c. search (turning-within, turning-narrow, rules))
-    (λ c. search rules) (λ c. search rules) (λ c. search rules) (λ c κs. sounding-due c.before.before.before.before.before.before.loop.invariant c.before.before.before.before.before.loop-test.true _ c.before.before.before.before.read-record.ensures) (λ c κs. search rules)
-    (λ c. sounding-long c.before.before.before.before.before.before.before.before.before.before.before.loop.invariant c.before.before.before.before.before.before.before.before.before.before.loop-test.true _ c.before.before.before.before.before.before.before.before.before.read-record.ensures _ _ _ _ c.before.before.before.before.play-tick.ensures.0 c.before.if1.true)
+    (λ c κs. search rules) (λ c κs. search (good_least, rules)) (λ c. search rules) (λ c κs. search rules)
+    loop_holds
+    (λ c κs. search (turning_few, rules))
+    (λ c. search (turning_within, turning_narrow, rules))
+    (λ c. search rules) (λ c. search rules) (λ c. search rules) (λ c κs. sounding_due c.before.before.before.before.before.before.loop.invariant c.before.before.before.before.before.loop-test.true _ c.before.before.before.before.read-record.ensures) (λ c κs. search rules)
+    (λ c. sounding_long c.before.before.before.before.before.before.before.before.before.before.before.loop.invariant c.before.before.before.before.before.before.before.before.before.before.loop-test.true _ c.before.before.before.before.before.before.before.before.before.read-record.ensures _ _ _ _ c.before.before.before.before.play-tick.ensures.0 c.before.if1.true)
     returns
-    (λ c. search (turning-next, rules))
-    (λ c. search (turning-count, rules))
+    (λ c. search (turning_next, rules))
+    (λ c. search (turning_count, rules))
     (λ c. search rules)
-    loop-again
+    loop_again
     (λ c κs. search rules)
     (λ c. search rules)
-    returns-2)
+    returns_2)

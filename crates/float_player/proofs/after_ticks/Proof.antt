@@ -3,5 +3,5 @@ use borrow.Author.Rules.{rules}
 use Rattle.float_player.proofs.after_ticks.Statement.{statement}
 use Rattle.float_player.proofs.after_ticks.Tie as tie
 
-pub after-ticks-spec : {M : Type 1} → statement M
-after-ticks-spec = tie.close (tie.spec (λ c κs. search rules) (λ c. cc))
+pub after_ticks_spec : {M : Type 1} → statement M
+after_ticks_spec = tie.close (tie.spec (λ c κs. search rules) (λ c. cc))

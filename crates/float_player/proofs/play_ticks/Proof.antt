@@ -1,6 +1,6 @@
 -- The loop: what is played, followed by what is left to play, is the whole, on the machine that plays floats (`Sounding`).
-use Rattle.player.specs.Turning.{turning-run, turning-within, turning-narrow, turning-next, turning-step}
-use Rattle.float_player.proofs.Turns.{Sounding, sounding-begin, sounding-due, sounding-long, sounding-more, ended-all, ended-full}
+use Rattle.player.specs.Turning.{turning_run, turning_within, turning_narrow, turning_next, turning_step}
+use Rattle.float_player.proofs.Turns.{Sounding, sounding_begin, sounding_due, sounding_long, sounding_more, ended_all, ended_full}
 use Prim.Native.Nat.{◌-◌}
 use borrow.Author.Rules.{rules}
 use Rattle.float_player.proofs.play_ticks.Statement.{statement}
@@ -13,27 +13,27 @@ invariant-loop layout file left n sides out₀ extents mixed₀ song₀ machine�
 abbrev decreases-loop : tie.decreases-loop
 decreases-loop layout file left n sides out₀ extents mixed₀ song₀ machine₀ at₀ i₀ out mixed song machine at i = n - i
 
-pub play-ticks-spec : {M : Type 1} → statement M
-play-ticks-spec =
+pub play_ticks_spec : {M : Type 1} → statement M
+play_ticks_spec =
     tie.close
     (tie.spec
     invariant-loop
     decreases-loop
     (λ c κs. search rules)
-    (λ c. search (sounding-begin, rules))
-    (λ c κs. (search rules, (search rules, search (turning-run, rules))))
-    (λ c. search (turning-within, turning-narrow, rules))
+    (λ c. search (sounding_begin, rules))
+    (λ c κs. (search rules, (search rules, search (turning_run, rules))))
+    (λ c. search (turning_within, turning_narrow, rules))
     (λ c. search rules)
     (λ c. search rules)
     (λ c. search rules)
-    (λ c κs. search (sounding-due, rules))
+    (λ c κs. search (sounding_due, rules))
     (λ c κs. search rules)
-    (λ c. sounding-long c.before.before.before.before.before.before.before.before.before.before.before.before.loop.invariant c.before.before.before.before.before.before.before.before.before.before.before.loop-test.true _ c.before.before.before.before.before.before.before.before.before.next-tick.ensures _ _ _ _ c.before.before.before.before.play-tick.ensures.0 c.before.if1.true)
-    (λ c. ended-full c.before.before.before.before.before.before.before.before.before.before.before.before.loop.invariant _ c.after-ticks.ensures c.before.before.before.before.before.before.before.before.before.before.before.loop-test.true _ c.before.before.before.before.before.before.before.before.before.next-tick.ensures _ _ _ _ c.before.before.before.before.play-tick.ensures.0 c.before.if1.true)
-    (λ c. search (turning-next, rules))
-    (λ c. search (turning-step, rules))
+    (λ c. sounding_long c.before.before.before.before.before.before.before.before.before.before.before.before.loop.invariant c.before.before.before.before.before.before.before.before.before.before.before.loop-test.true _ c.before.before.before.before.before.before.before.before.before.next-tick.ensures _ _ _ _ c.before.before.before.before.play-tick.ensures.0 c.before.if1.true)
+    (λ c. ended_full c.before.before.before.before.before.before.before.before.before.before.before.before.loop.invariant _ c.after-ticks.ensures c.before.before.before.before.before.before.before.before.before.before.before.loop-test.true _ c.before.before.before.before.before.before.before.before.before.next-tick.ensures _ _ _ _ c.before.before.before.before.play-tick.ensures.0 c.before.if1.true)
+    (λ c. search (turning_next, rules))
+    (λ c. search (turning_step, rules))
     (λ c. search rules)
-    (λ c. search (sounding-more, rules))
+    (λ c. search (sounding_more, rules))
     (λ c κs. search rules)
     (λ c. search rules)
-    (λ c. search (ended-all, rules)))
+    (λ c. search (ended_all, rules)))

@@ -8,5 +8,5 @@ returns : tie.Need-returns
 unfolding unasked
 returns c = search rules
 
-pub is-unasked-spec : {M : Type 1} → statement M
-is-unasked-spec = tie.close (tie.spec returns)
+pub is_unasked_spec : {M : Type 1} → statement M
+is_unasked_spec = tie.close (tie.spec returns)

@@ -7,5 +7,5 @@ use Rattle.floats.proofs.is_zero.Tie as tie
 returns : tie.Need-returns
 returns c = search (zero_test, rules)
 
-pub is-zero-spec : {M : Type 1} → statement M
-is-zero-spec = tie.close (tie.spec returns)
+pub is_zero_spec : {M : Type 1} → statement M
+is_zero_spec = tie.close (tie.spec returns)

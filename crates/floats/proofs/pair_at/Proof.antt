@@ -7,5 +7,5 @@ use Rattle.floats.proofs.pair_at.Tie as tie
 returns : tie.Need-returns
 returns c = search (pair_is, rules)
 
-pub pair-at-spec : {M : Type 1} → statement M
-pair-at-spec = tie.close (tie.spec (λ c κs. search rules) (λ c κs. search rules) returns)
+pub pair_at_spec : {M : Type 1} → statement M
+pair_at_spec = tie.close (tie.spec (λ c κs. search rules) (λ c κs. search rules) returns)

@@ -9,9 +9,9 @@ returns : tie.Need-returns
 unfolding kept_at
 returns c = search (tests, rules)
 
-returns-2 : tie.Need-returns-2
+returns_2 : tie.Need-returns-2
 unfolding kept_at
-returns-2 c = search (tests, rules)
+returns_2 c = search (tests, rules)
 
-pub kept-at-spec : {M : Type 1} → statement M
-kept-at-spec = tie.close (tie.spec (λ c. search rules) (λ c. search rules) returns returns-2)
+pub kept_at_spec : {M : Type 1} → statement M
+kept_at_spec = tie.close (tie.spec (λ c. search rules) (λ c. search rules) returns returns_2)

@@ -1,7 +1,7 @@
 -- The loop stores the extent of each command's sample.
 use borrow.Author.Rules.{rules}
 use Prim.Native.Nat.{◌-◌}
-use Rattle.mixing.proofs.Telling.{Naming, naming-none, naming-known, naming-more, naming-end}
+use Rattle.mixing.proofs.Telling.{Naming, naming_none, naming_known, naming_more, naming_end}
 use Rattle.mixing.proofs.named.Statement.{statement}
 use Rattle.mixing.proofs.named.Tie as tie
 
@@ -11,22 +11,22 @@ invariant-loop channels extents commands marks₀ i₀ marks i = Naming extents 
 abbrev decreases-loop : tie.decreases-loop
 decreases-loop channels extents commands marks₀ i₀ marks i = channels - i
 
-pub named-spec : {M : Type 1} → statement M
-named-spec =
+pub named_spec : {M : Type 1} → statement M
+named_spec =
     tie.close
     (tie.spec
     invariant-loop
     decreases-loop
     (λ c. search rules)
-    (λ c. search (naming-none, rules))
+    (λ c. search (naming_none, rules))
     (λ c. search rules)
     (λ c. search rules)
     (λ c. search rules)
     (λ c. search rules)
-    (λ c. search (naming-known, rules))
+    (λ c. search (naming_known, rules))
     (λ c. search rules)
     (λ c. search rules)
     (λ c. search rules)
     (λ c. search rules)
-    (λ c. search (naming-more, rules))
-    (λ c. search (naming-end, rules)))
+    (λ c. search (naming_more, rules))
+    (λ c. search (naming_end, rules)))

@@ -9,9 +9,9 @@ returns : tie.Need-returns
 unfolding scale_of
 returns c = search (tests, rules)
 
-returns-2 : tie.Need-returns-2
+returns_2 : tie.Need-returns-2
 unfolding scale_of
-returns-2 c = search (tests, rules)
+returns_2 c = search (tests, rules)
 
-pub scale-spec : {M : Type 1} → statement M
-scale-spec = tie.close (tie.spec returns returns-2)
+pub scale_spec : {M : Type 1} → statement M
+scale_spec = tie.close (tie.spec returns returns_2)

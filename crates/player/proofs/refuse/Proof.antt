@@ -3,5 +3,5 @@ use Rattle.std.proofs.Common.{rules}
 use Rattle.player.proofs.refuse.Statement.{statement}
 use Rattle.player.proofs.refuse.Tie as tie
 
-pub refuse-spec : {M : Type 1} → statement M
-refuse-spec = tie.close (tie.spec (λ c κs. search rules) (λ c. rw c.refuse.ensures))
+pub refuse_spec : {M : Type 1} → statement M
+refuse_spec = tie.close (tie.spec (λ c κs. search rules) (λ c. rw c.refuse.ensures))

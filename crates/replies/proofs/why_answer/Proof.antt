@@ -4,19 +4,19 @@ use mathlib.Core.Path.{◌≡◌}
 use Rattle.common.specs.Answers.{accepted}
 use Rattle.common.specs.declared.Answer.{Answer}
 use Rattle.voice.specs.declared.quiet.Cause.{Cause}
-use Rattle.voice.specs.Quiet.{causeNumber}
+use Rattle.voice.specs.Quiet.{cause_number}
 use Rattle.player.specs.declared.Why.{Why}
 use Rattle.player.specs.declared.Why.TheVariants.{Because}
-use Rattle.player.specs.Quiet.{whyAnswer}
+use Rattle.player.specs.Quiet.{why_answer}
 use borrow.Author.Rules.{rules}
 use Rattle.replies.proofs.why_answer.Statement.{statement}
 use Rattle.replies.proofs.why_answer.Tie as tie
 
-counted : (why : Why) (c : Cause) (n : ℕ) (a : Answer) → why ≡ Because c → n ≡ causeNumber c → a ≡ accepted n → a ≡ whyAnswer why
+counted : (why : Why) (c : Cause) (n : ℕ) (a : Answer) → why ≡ Because c → n ≡ cause_number c → a ≡ accepted n → a ≡ why_answer why
 counted why c n a e q p = rw (e, ← q) p
 
-pub why-answer-spec : {M : Type 1} → statement M
-why-answer-spec =
+pub why_answer_spec : {M : Type 1} → statement M
+why_answer_spec =
     tie.close
     (tie.spec
     (λ c. search rules)

@@ -2,7 +2,7 @@
 use borrow.Author.Rules.{rules}
 use Prim.Native.Nat.{◌-◌}
 use lib.IntN.{pos}
-use Rattle.laws.specs.Lists.{Filling, filling-none, filling-more, filling-end}
+use Rattle.laws.specs.Lists.{Filling, filling_none, filling_more, filling_end}
 use Rattle.runs.proofs.clear.Statement.{statement}
 use Rattle.runs.proofs.clear.Tie as tie
 
@@ -18,11 +18,11 @@ clear_spec =
     (tie.spec
     invariant-loop
     decreases-loop
-    (λ c. search (filling-none, rules))
+    (λ c. search (filling_none, rules))
     (λ c. search rules)
     (λ c. search rules)
     (λ c. search rules)
     (λ c. search rules)
-    (λ c. search (filling-more, rules))
+    (λ c. search (filling_more, rules))
     (λ c. search rules)
-    (λ c. search (filling-end, rules)))
+    (λ c. search (filling_end, rules)))

@@ -1,7 +1,7 @@
 -- The loop: channels and commands are filled with what the channels passed give.
 use Rattle.reader.specs.File.{lent}
 use Rattle.std.proofs.Common.{◌-◌, rules}
-use Rattle.sequencer.proofs.Laws.{Voicing, voicing-begin, voicing-depths, voicing-small, voicing-again, voicing-end}
+use Rattle.sequencer.proofs.Laws.{Voicing, voicing_begin, voicing_depths, voicing_small, voicing_again, voicing_end}
 use Rattle.sequencer.proofs.all_voiced.Statement.{statement}
 use Rattle.sequencer.proofs.all_voiced.Tie as tie
 
@@ -11,25 +11,25 @@ invariant-loop layout file row song sounding u t all₀ i₀ all i = Voicing (le
 abbrev decreases-loop : tie.decreases-loop
 decreases-loop layout file row song sounding u t all₀ i₀ all i = layout.channels - i
 
-pub all-voiced-spec : {M : Type 1} → statement M
-all-voiced-spec =
+pub all_voiced_spec : {M : Type 1} → statement M
+all_voiced_spec =
     tie.close
     (tie.spec
     invariant-loop
     decreases-loop
     (λ c. search rules)
     (λ c κs. search rules)
-    (λ c. search (voicing-begin, rules))
+    (λ c. search (voicing_begin, rules))
     (λ c. search rules)
     (λ c. search rules)
     (λ c. search rules)
     (λ c. search rules)
-    (λ c κs. (search rules, (search (voicing-depths, rules), search (voicing-small, rules))))
+    (λ c κs. (search rules, (search (voicing_depths, rules), search (voicing_small, rules))))
     (λ c. search rules)
     (λ c. search rules)
     (λ c. search rules)
     (λ c. search rules)
     (λ c. search rules)
     (λ c. search rules)
-    (λ c. search (voicing-again, rules))
-    (λ c. search (voicing-end, rules)))
+    (λ c. search (voicing_again, rules))
+    (λ c. search (voicing_end, rules)))

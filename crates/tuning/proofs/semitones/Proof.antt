@@ -7,9 +7,9 @@ use borrow.Author.Rules.{rules}
 use Rattle.tuning.proofs.semitones.Statement.{statement}
 use Rattle.tuning.proofs.semitones.Tie as tie
 
-pub semitones-spec : {M : Type 1} → statement M
+pub semitones_spec : {M : Type 1} → statement M
 unfolding row_of each entry printed
-semitones-spec =
+semitones_spec =
     tie.close
     (tie.spec
     (λ c κs. search (refl, row_by, rules))

@@ -2,7 +2,7 @@
 use borrow.Author.Rules.{rules}
 use Prim.Native.Nat.{◌-◌}
 use native.Mathlib.Nat.{le_refl}
-use Rattle.voice_runs.proofs.Passing.{Passing, passing-none, passing-pace, passing-more, passing-end}
+use Rattle.voice_runs.proofs.Passing.{Passing, passing_none, passing_pace, passing_more, passing_end}
 use Rattle.voice_runs.proofs.pass.Statement.{statement}
 use Rattle.voice_runs.proofs.pass.Tie as tie
 
@@ -18,11 +18,11 @@ pass_spec =
     (tie.spec
     invariant-loop
     decreases-loop
-    (λ c. search (passing-none, rules))
+    (λ c. search (passing_none, rules))
     (λ c. search rules)
-    (λ c κs. (search rules, (search (passing-pace, rules), search rules)))
+    (λ c κs. (search rules, (search (passing_pace, rules), search rules)))
     (λ c κs. (search rules, (search rules, (search rules, (search rules, search (le_refl, rules))))))
     (λ c. search rules)
     (λ c. search rules)
-    (λ c. search (passing-more, rules))
-    (λ c. search (passing-end, rules)))
+    (λ c. search (passing_more, rules))
+    (λ c. search (passing_end, rules)))

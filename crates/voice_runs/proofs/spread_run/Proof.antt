@@ -2,20 +2,20 @@
 use borrow.Author.Rules.{rules}
 use native.Mathlib.Nat.{le_refl}
 use native.Mathlib.Omega.{arith}
-use Rattle.voice_runs.proofs.Moving.{cut-index, cut_line}
-use Rattle.voice_runs.proofs.Spreading.{run-pace, run-spread}
+use Rattle.voice_runs.proofs.Moving.{cut_index, cut_line}
+use Rattle.voice_runs.proofs.Spreading.{run_pace, run_spread}
 use Rattle.voice_runs.proofs.spread_run.Statement.{statement}
 use Rattle.voice_runs.proofs.spread_run.Tie as tie
 
-fill-run-requires : tie.Need-fill-run-requires
-fill-run-requires c κs =
+fill_run_requires : tie.Need-fill-run-requires
+fill_run_requires c κs =
     let z = c.before.before.before.before.before.before in
     let p = z.requires in
     let f = c.before.before.before.before.follow.ensures in
-    (cut_line _ _ _ _ _ f.0 _ (le_refl _) z.args.bytes.now p.1.1.0.0 p.1.1.0.1, (run-pace _ _ _ _ _ f.0 z.args.pace p.0 p.1.0, ((p.1.1.1.0, f.0.part, omega (arith, f.1, p.1.1.1)), omega (arith, f.1, p.1.1.1))))
+    (cut_line _ _ _ _ _ f.0 _ (le_refl _) z.args.bytes.now p.1.1.0.0 p.1.1.0.1, (run_pace _ _ _ _ _ f.0 z.args.pace p.0 p.1.0, ((p.1.1.1.0, f.0.part, omega (arith, f.1, p.1.1.1)), omega (arith, f.1, p.1.1.1))))
 
-after-requires : tie.Need-after-requires
-after-requires c κs =
+after_requires : tie.Need-after-requires
+after_requires c κs =
     let p = c.before.before.before.before.before.before.before.before.requires in
     let f = c.before.before.before.before.before.before.follow.ensures.0 in
     (p.0, ((p.1.0.growth, p.1.0.slow), (f, (f.some, le_refl _))))
@@ -24,19 +24,19 @@ returns : tie.Need-returns
 returns c =
     let z = c.before.before.before.before.before.before.before.before.before in
     let f = c.before.before.before.before.before.before.before.follow.ensures in
-    run-spread _ _ _ _ _ f.0 z.args.bytes.now z.args.weight z.args.left z.args.at f.1 _ _ c.before.before.fill-run.ensures _ c.after.ensures
+    run_spread _ _ _ _ _ f.0 z.args.bytes.now z.args.weight z.args.left z.args.at f.1 _ _ c.before.before.fill-run.ensures _ c.after.ensures
 
-pub spread-run-spec : {M : Type 1} → statement M
-spread-run-spec =
+pub spread_run_spec : {M : Type 1} → statement M
+spread_run_spec =
     tie.close
     (tie.spec
     (λ c κs. search rules)
     (λ c. search rules)
     (λ c. search rules)
-    (λ c. search (cut-index, rules))
-    (λ c. search (cut-index, rules))
+    (λ c. search (cut_index, rules))
+    (λ c. search (cut_index, rules))
     (λ c. search rules)
-    fill-run-requires
-    after-requires
+    fill_run_requires
+    after_requires
     (λ c. search rules)
     returns)

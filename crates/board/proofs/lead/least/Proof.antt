@@ -4,5 +4,5 @@ use Rattle.laws.specs.Tests.{tests}
 use Rattle.board.proofs.lead.least.Statement.{statement}
 use Rattle.board.proofs.lead.least.Tie as tie
 
-pub least-spec : {M : Type 1} → statement M
-least-spec = tie.close (tie.spec (λ c. search (tests, rules)) (λ c. search (tests, rules)))
+pub least_spec : {M : Type 1} → statement M
+least_spec = tie.close (tie.spec (λ c. search (tests, rules)) (λ c. search (tests, rules)))

@@ -10,8 +10,8 @@ invariant-loop file state₀ i₀ state i = Unit {0}
 abbrev decreases-loop : tie.decreases-loop
 decreases-loop file state₀ i₀ state i = 48 - i
 
-pub play-ticks-spec : {M : Type 1} → statement M
-play-ticks-spec =
+pub play_ticks_spec : {M : Type 1} → statement M
+play_ticks_spec =
     tie.close
     (tie.spec
     invariant-loop

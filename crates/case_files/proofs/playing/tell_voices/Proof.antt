@@ -11,8 +11,8 @@ invariant-loop n voices i₀ i = n ≤ width
 abbrev decreases-loop : tie.decreases-loop
 decreases-loop n voices i₀ i = n - i
 
-pub tell-voices-spec : {M : Type 1} → statement M
-tell-voices-spec =
+pub tell_voices_spec : {M : Type 1} → statement M
+tell_voices_spec =
     tie.close
     (tie.spec
     invariant-loop

@@ -4,8 +4,8 @@ use borrow.Author.Rules.{rules}
 use Rattle.common.proofs.bytes.byte.Statement.{statement}
 use Rattle.common.proofs.bytes.byte.Tie as tie
 
-returns-2 : tie.Need-returns-2
-returns-2 c = search (past_end, rules)
+returns_2 : tie.Need-returns-2
+returns_2 c = search (past_end, rules)
 
-pub byte-spec : {M : Type 1} → statement M
-byte-spec = tie.close (tie.spec (λ c. search rules) (λ c κs. search rules) (λ c. search rules) returns-2)
+pub byte_spec : {M : Type 1} → statement M
+byte_spec = tie.close (tie.spec (λ c. search rules) (λ c κs. search rules) (λ c. search rules) returns_2)

@@ -2,7 +2,7 @@
 -- Assumes nothing.
 use Prim.Native.Nat.{◌-◌}
 use borrow.Author.Rules.{rules}
-use Rattle.decoder.proofs.Commands.{Reading, reading-none, reading-more, reading-unread, reading-all}
+use Rattle.decoder.proofs.Commands.{Reading, reading_none, reading_more, reading_unread, reading_all}
 use Rattle.decoder.proofs.channels.read_channels.Statement.{statement}
 use Rattle.decoder.proofs.channels.read_channels.Tie as tie
 
@@ -12,20 +12,20 @@ invariant-loop last channels stream at mask registers commands₀ p₀ m₀ k₀
 abbrev decreases-loop : tie.decreases-loop
 decreases-loop last channels stream at mask registers commands₀ p₀ m₀ k₀ commands p m k = channels - k
 
-pub read-channels-spec : {M : Type 1} → statement M
-read-channels-spec =
+pub read_channels_spec : {M : Type 1} → statement M
+read_channels_spec =
     tie.close
     (tie.spec
     invariant-loop
     decreases-loop
-    (λ c. search (reading-none, rules))
+    (λ c. search (reading_none, rules))
     (λ c. search rules)
     (λ c. search rules)
     (λ c κs. search rules)
-    (λ c. search (reading-unread, rules))
+    (λ c. search (reading_unread, rules))
     (λ c. search rules)
     (λ c. search rules)
     (λ c. search rules)
     (λ c. search rules)
-    (λ c. search (reading-more, rules))
-    (λ c. search (reading-all, rules)))
+    (λ c. search (reading_more, rules))
+    (λ c. search (reading_all, rules)))

@@ -9,8 +9,8 @@ returns : tie.Need-returns
 unfolding spelled
 returns c = cc
 
-pub spelled-spec : {M : Type 1} → statement M
-spelled-spec =
+pub spelled_spec : {M : Type 1} → statement M
+spelled_spec =
     tie.close
     (tie.spec
     (λ c κs. search rules)

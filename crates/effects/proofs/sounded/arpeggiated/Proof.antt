@@ -4,9 +4,9 @@ use borrow.Author.Rules.{rules}
 use Rattle.effects.proofs.sounded.arpeggiated.Statement.{statement}
 use Rattle.effects.proofs.sounded.arpeggiated.Tie as tie
 
-pub arpeggiated-spec : {M : Type 1} → statement M
+pub arpeggiated_spec : {M : Type 1} → statement M
 unfolding arpeggiated
-arpeggiated-spec =
+arpeggiated_spec =
     tie.close
     (tie.spec
     (λ c κs. search rules)

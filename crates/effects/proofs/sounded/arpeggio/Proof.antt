@@ -6,9 +6,9 @@ use borrow.Author.Rules.{rules}
 use Rattle.effects.proofs.sounded.arpeggio.Statement.{statement}
 use Rattle.effects.proofs.sounded.arpeggio.Tie as tie
 
-pub arpeggio-spec : {M : Type 1} → statement M
+pub arpeggio_spec : {M : Type 1} → statement M
 unfolding arpeggio
-arpeggio-spec =
+arpeggio_spec =
     tie.close
     (tie.spec
     (λ c. search (eqb-other, tests, rules))

@@ -5,9 +5,9 @@ use borrow.Author.Rules.{rules}
 use Rattle.effects.proofs.sounded.transposed.Statement.{statement}
 use Rattle.effects.proofs.sounded.transposed.Tie as tie
 
-pub transposed-spec : {M : Type 1} → statement M
+pub transposed_spec : {M : Type 1} → statement M
 unfolding transposed
-transposed-spec =
+transposed_spec =
     tie.close
     (tie.spec
     (λ c. search (tests, rules))

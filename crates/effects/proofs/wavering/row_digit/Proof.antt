@@ -4,18 +4,18 @@ use mathlib.Core.Path.{◌≡◌}
 use mathlib.Core.Bool.{Bool}
 use native.Mathlib.Omega.{arith}
 use Rattle.motion.specs.Waves.{remembered}
-use Rattle.motion.specs.Kept.{remembered-le}
+use Rattle.motion.specs.Kept.{remembered_le}
 use borrow.Author.Rules.{rules}
 use Rattle.effects.proofs.wavering.row_digit.Statement.{statement}
 use Rattle.effects.proofs.wavering.row_digit.Tie as tie
 
-byte-again : (given : Bool) (n old r : ℕ) → r ≡ remembered given n old → n < 256 → old < 2 ^ 8 → r < 2 ^ 8
-byte-again given n old r e h l = rw e (omega (arith, remembered-le 255 given n old (omega arith) (omega arith)))
+byte_again : (given : Bool) (n old r : ℕ) → r ≡ remembered given n old → n < 256 → old < 2 ^ 8 → r < 2 ^ 8
+byte_again given n old r e h l = rw e (omega (arith, remembered_le 255 given n old (omega arith) (omega arith)))
 
-pub row-digit-spec : {M : Type 1} → statement M
-row-digit-spec =
+pub row_digit_spec : {M : Type 1} → statement M
+row_digit_spec =
     tie.close
     (tie.spec
     (λ c κs. search rules)
-    (λ c. search (byte-again, rules))
+    (λ c. search (byte_again, rules))
     (λ c. search rules))

@@ -4,9 +4,9 @@ use borrow.Author.Rules.{rules}
 use Rattle.effects.proofs.wavering.trembles.Statement.{statement}
 use Rattle.effects.proofs.wavering.trembles.Tie as tie
 
-pub trembles-spec : {M : Type 1} → statement M
+pub trembles_spec : {M : Type 1} → statement M
 unfolding trembles
-trembles-spec =
+trembles_spec =
     tie.close
     (tie.spec
     (λ c. search rules))

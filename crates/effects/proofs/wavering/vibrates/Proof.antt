@@ -4,9 +4,9 @@ use borrow.Author.Rules.{rules}
 use Rattle.effects.proofs.wavering.vibrates.Statement.{statement}
 use Rattle.effects.proofs.wavering.vibrates.Tie as tie
 
-pub vibrates-spec : {M : Type 1} → statement M
+pub vibrates_spec : {M : Type 1} → statement M
 unfolding vibrates
-vibrates-spec =
+vibrates_spec =
     tie.close
     (tie.spec
     (λ c. search rules))

@@ -1,13 +1,13 @@
 -- The tests are those of the definition, in its order; a sample number that is not 0 has a header.
 use Rattle.laws.specs.Tests.{tests}
-use Rattle.effects.specs.Work.{givenFinetune}
+use Rattle.effects.specs.Work.{given_finetune}
 use borrow.Author.Rules.{rules}
 use Rattle.effects.proofs.work.given_finetune.Statement.{statement}
 use Rattle.effects.proofs.work.given_finetune.Tie as tie
 
-pub given-finetune-spec : {M : Type 1} → statement M
-unfolding givenFinetune
-given-finetune-spec =
+pub given_finetune_spec : {M : Type 1} → statement M
+unfolding given_finetune
+given_finetune_spec =
     tie.close
     (tie.spec
     (λ c. search (tests, rules))

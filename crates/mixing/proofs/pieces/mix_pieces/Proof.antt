@@ -1,7 +1,7 @@
 -- The frames so far are woven, and the voices are those after them; a piece goes on from there.
 use borrow.Author.Rules.{rules}
 use Prim.Native.Nat.{◌-◌}
-use Rattle.mixing.proofs.Piecing.{Spacious, Piecing, sounding-period, piecing-none, piecing-sounding, piecing-pacing, piecing-more, piecing-long, voices-end, woven-end}
+use Rattle.mixing.proofs.Piecing.{Spacious, Piecing, sounding_period, piecing_none, piecing_sounding, piecing_pacing, piecing_more, piecing_long, voices_end, woven_end}
 use Rattle.mixing.proofs.pieces.mix_pieces.Statement.{statement}
 use Rattle.mixing.proofs.pieces.mix_pieces.Tie as tie
 
@@ -12,47 +12,47 @@ invariant-loop channels file extents times frames out₀ paces left₀ right₀ 
 abbrev decreases-loop : tie.decreases-loop
 decreases-loop channels file extents times frames out₀ paces left₀ right₀ further₀ w₀ k₀ out left right further w k = frames - k
 
-paces-of-requires : tie.Need-paces-of-requires invariant-loop decreases-loop
-paces-of-requires c κs = let s = c.before.requires.0 in (s.few, sounding-period _ _ _ _ s)
+paces_of_requires : tie.Need-paces-of-requires invariant-loop decreases-loop
+paces_of_requires c κs = let s = c.before.requires.0 in (s.few, sounding_period _ _ _ _ s)
 
-loop-holds : tie.Need-loop-init invariant-loop decreases-loop
-loop-holds c = (search (piecing-none, rules), search rules, search rules, search rules)
+loop_holds : tie.Need-loop-init invariant-loop decreases-loop
+loop_holds c = (search (piecing_none, rules), search rules, search rules, search rules)
 
-mix-piece-requires : tie.Need-mix-piece-requires invariant-loop decreases-loop
-mix-piece-requires c κs =
+mix_piece_requires : tie.Need-mix-piece-requires invariant-loop decreases-loop
+mix_piece_requires c κs =
     let m = c.before.before.before.before.before.before.loop.invariant.0 in
-    (piecing-sounding _ _ _ _ _ _ _ _ _ _ _ m, (piecing-pacing _ _ _ _ _ _ _ _ _ _ _ m, (m.sides, (search rules, search rules))))
+    (piecing_sounding _ _ _ _ _ _ _ _ _ _ _ m, (piecing_pacing _ _ _ _ _ _ _ _ _ _ _ m, (m.sides, (search rules, search rules))))
 
-loop-again : tie.Need-loop-preserved invariant-loop decreases-loop
-loop-again c =
+loop_again : tie.Need-loop-preserved invariant-loop decreases-loop
+loop_again c =
     let e = c.before.before.before.before.mix-piece.ensures in
-    (piecing-more _ _ _ _ _ _ _ _ _ _ _ c.before.before.before.before.before.before.before.before.before.before.before.loop.invariant.0 _ _ _ (search rules) e.0 e.1, search rules, search rules, search rules)
+    (piecing_more _ _ _ _ _ _ _ _ _ _ _ c.before.before.before.before.before.before.before.before.before.before.before.loop.invariant.0 _ _ _ (search rules) e.0 e.1, search rules, search rules, search rules)
 
 same_length : tie.Need-same-length invariant-loop decreases-loop
-same_length c = let e = piecing-long _ _ _ _ _ _ _ _ _ _ _ c.before.loop.invariant.0 in search rules
+same_length c = let e = piecing_long _ _ _ _ _ _ _ _ _ _ _ c.before.loop.invariant.0 in search rules
 
 returns : tie.Need-returns invariant-loop decreases-loop
 returns c =
     let m = c.before.loop.invariant.0 in
     let h = c.loop-test.false in
-    (voices-end _ _ _ _ _ _ _ _ _ _ _ m h, woven-end _ _ _ _ _ _ _ _ _ _ _ m h)
+    (voices_end _ _ _ _ _ _ _ _ _ _ _ m h, woven_end _ _ _ _ _ _ _ _ _ _ _ m h)
 
-pub mix-pieces-spec : {M : Type 1} → statement M
-mix-pieces-spec =
+pub mix_pieces_spec : {M : Type 1} → statement M
+mix_pieces_spec =
     tie.close
     (tie.spec
     invariant-loop
     decreases-loop
-    paces-of-requires
-    loop-holds
+    paces_of_requires
+    loop_holds
     (λ c. search rules)
     (λ c κs. search rules)
     (λ c. search rules)
     (λ c. search rules)
     (λ c. search rules)
-    mix-piece-requires
+    mix_piece_requires
     (λ c. search rules)
     (λ c. search rules)
-    loop-again
+    loop_again
     same_length
     returns)

@@ -5,7 +5,7 @@ use Prim.Native.Nat.{ℕ, ◌-◌, ◌<◌}
 use native.Mathlib.Omega.{arith}
 use mathlib.Core.Path.{refl}
 use lib.ListN.{get_or}
-use Rattle.mixing.proofs.Continuing.{Continuing, further-voiced, further-some, further-paced, further-roomy, further-more, further-voices, further-sums, further-narrow}
+use Rattle.mixing.proofs.Continuing.{Continuing, further_voiced, further_some, further_paced, further_roomy, further_more, further_voices, further_sums, further_narrow}
 use Rattle.mixing.proofs.side.mix_side.Statement.{statement}
 use Rattle.mixing.proofs.side.mix_side.Tie as tie
 
@@ -18,61 +18,61 @@ decreases-loop channels file times on frames cells₀ further₀ extents voices 
 bytes : (c : tie.After-shared-slice-known invariant-loop decreases-loop) (k : ℕ) → get_or c.before.args.file.now k 0 < 256
 bytes c k = omega (arith, c.shared-slice-known.given k)
 
-begin-requires : tie.Need-begin-requires invariant-loop decreases-loop
-begin-requires c κs = let p = c.before.before.requires in (p.0, (p.1.0, (p.1.1.0.scale.1, p.1.1.1.1.0, p.1.1.1.1.1)))
+begin_requires : tie.Need-begin-requires invariant-loop decreases-loop
+begin_requires c κs = let p = c.before.before.requires in (p.0, (p.1.0, (p.1.1.0.scale.1, p.1.1.1.1.0, p.1.1.1.1.1)))
 
-loop-holds : tie.Need-loop-init invariant-loop decreases-loop
-loop-holds c =
+loop_holds : tie.Need-loop-init invariant-loop decreases-loop
+loop_holds c =
     let p = c.before.before.before.before.before.requires in
     record { sounding = p.0; pacing = p.1.0; sides = p.1.1.0; bytes = bytes c.before.before.before.before; on = p.1.1.1.0; short = p.1.1.1.1.0; fits = search rules; same = search (refl, rules); siding = c.before.before.begin.ensures }
 
-sound-requires : tie.Need-sound-requires invariant-loop decreases-loop
-sound-requires c κs =
+sound_requires : tie.Need-sound-requires invariant-loop decreases-loop
+sound_requires c κs =
     let m = c.before.before.before.before.before.loop.invariant in
     let h = c.before.before.before.before.loop-test.true in
-    ((further-voiced m h, further-some m h), (further-paced m h, (m.sides.scale.1, m.short, m.fits.1)))
+    ((further_voiced m h, further_some m h), (further_paced m h, (m.sides.scale.1, m.short, m.fits.1)))
 
-add-requires : tie.Need-add-requires invariant-loop decreases-loop
-add-requires c κs =
+add_requires : tie.Need-add-requires invariant-loop decreases-loop
+add_requires c κs =
     let m = c.before.before.before.before.before.before.before.before.before.loop.invariant in
     let h = c.before.before.before.before.before.before.before.before.loop-test.true in
-    (search rules, further-roomy m h c.before.before.before.sound.ensures.1)
+    (search rules, further_roomy m h c.before.before.before.sound.ensures.1)
 
-loop-again : tie.Need-loop-preserved invariant-loop decreases-loop
-loop-again c =
+loop_again : tie.Need-loop-preserved invariant-loop decreases-loop
+loop_again c =
     let m = c.before.before.before.before.before.before.before.before.before.before.before.before.loop.invariant in
     let h = c.before.before.before.before.before.before.before.before.before.before.before.loop-test.true in
     let e = c.before.before.before.before.before.before.sound.ensures in
-    further-more m h e.1 (search rules) (search rules) c.next.ensures e.0 c.before.before.add.ensures
+    further_more m h e.1 (search rules) (search rules) c.next.ensures e.0 c.before.before.add.ensures
 
 returns : tie.Need-returns invariant-loop decreases-loop
 returns c =
     let m = c.before.loop.invariant in
     let h = c.loop-test.false in
-    (further-voices m h, (further-sums m h, further-narrow m h))
+    (further_voices m h, (further_sums m h, further_narrow m h))
 
-pub mix-side-spec : {M : Type 1} → statement M
-mix-side-spec =
+pub mix_side_spec : {M : Type 1} → statement M
+mix_side_spec =
     tie.close
     (tie.spec
     invariant-loop
     decreases-loop
-    begin-requires
-    loop-holds
+    begin_requires
+    loop_holds
     (λ c. search rules)
     (λ c. search rules)
     (λ c. search rules)
     (λ c. search rules)
     (λ c. search rules)
     (λ c. search rules)
-    sound-requires
+    sound_requires
     (λ c. search rules)
     (λ c. search rules)
-    add-requires
+    add_requires
     (λ c. search rules)
     (λ c κs. search rules)
     (λ c. search rules)
-    loop-again
+    loop_again
     (λ c. search rules)
     (λ c. search rules)
     returns)

@@ -1,7 +1,7 @@
 -- The channels passed do not sound on the side.
 use borrow.Author.Rules.{rules}
 use Prim.Native.Nat.{◌-◌}
-use Rattle.mixing.proofs.Seeking.{Seeking, seeking-none, seeking-more, seeking-found, seeking-end}
+use Rattle.mixing.proofs.Seeking.{Seeking, seeking_none, seeking_more, seeking_found, seeking_end}
 use Rattle.mixing.proofs.side.next.Statement.{statement}
 use Rattle.mixing.proofs.side.next.Tie as tie
 
@@ -11,18 +11,18 @@ invariant-loop channels on from voices i₀ i = Seeking voices on channels from 
 abbrev decreases-loop : tie.decreases-loop
 decreases-loop channels on from voices i₀ i = channels - i
 
-pub next-spec : {M : Type 1} → statement M
-next-spec =
+pub next_spec : {M : Type 1} → statement M
+next_spec =
     tie.close
     (tie.spec
     invariant-loop
     decreases-loop
-    (λ c. search (seeking-none, rules))
+    (λ c. search (seeking_none, rules))
     (λ c. search rules)
     (λ c. search rules)
     (λ c κs. search rules)
-    (λ c. search (seeking-found, rules))
+    (λ c. search (seeking_found, rules))
     (λ c. search rules)
     (λ c. search rules)
-    (λ c. search (seeking-more, rules))
-    (λ c. search (seeking-end, rules)))
+    (λ c. search (seeking_more, rules))
+    (λ c. search (seeking_end, rules)))

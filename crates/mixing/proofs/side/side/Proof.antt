@@ -9,5 +9,5 @@ returns : tie.Need-returns
 unfolding side_of
 returns c = refl
 
-pub side-spec : {M : Type 1} → statement M
-side-spec = tie.close (tie.spec (λ c. search rules) returns)
+pub side_spec : {M : Type 1} → statement M
+side_spec = tie.close (tie.spec (λ c. search rules) returns)

@@ -10,8 +10,8 @@ returns : tie.Need-returns
 unfolding lowered
 returns c = search (tests, rules)
 
-returns-2 : tie.Need-returns-2
-returns-2 c = search (lowered_by, rules)
+returns_2 : tie.Need-returns-2
+returns_2 c = search (lowered_by, rules)
 
-pub lowered-spec : {M : Type 1} → statement M
-lowered-spec = tie.close (tie.spec returns (λ c κs. search rules) (λ c κs. search rules) returns-2)
+pub lowered_spec : {M : Type 1} → statement M
+lowered_spec = tie.close (tie.spec returns (λ c κs. search rules) (λ c κs. search rules) returns_2)

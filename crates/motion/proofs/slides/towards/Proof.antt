@@ -6,9 +6,9 @@ use borrow.Author.Rules.{rules}
 use Rattle.motion.proofs.slides.towards.Statement.{statement}
 use Rattle.motion.proofs.slides.towards.Tie as tie
 
-pub towards-spec : {M : Type 1} → statement M
+pub towards_spec : {M : Type 1} → statement M
 unfolding towards
-towards-spec =
+towards_spec =
     tie.close
     (tie.spec
     (λ c. search (tests, limits, rules))

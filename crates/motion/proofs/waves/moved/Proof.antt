@@ -5,9 +5,9 @@ use borrow.Author.Rules.{rules}
 use Rattle.motion.proofs.waves.moved.Statement.{statement}
 use Rattle.motion.proofs.waves.moved.Tie as tie
 
-pub moved-spec : {M : Type 1} → statement M
+pub moved_spec : {M : Type 1} → statement M
 unfolding moved
-moved-spec =
+moved_spec =
     tie.close
     (tie.spec
     (λ c. search rules)

@@ -5,9 +5,9 @@ use borrow.Author.Rules.{rules}
 use Rattle.motion.proofs.waves.remembered.Statement.{statement}
 use Rattle.motion.proofs.waves.remembered.Tie as tie
 
-pub remembered-spec : {M : Type 1} → statement M
+pub remembered_spec : {M : Type 1} → statement M
 unfolding remembered
-remembered-spec =
+remembered_spec =
     tie.close
     (tie.spec
     (λ c. search (tests, rules))

@@ -5,9 +5,9 @@ use borrow.Author.Rules.{rules}
 use Rattle.motion.proofs.waves.rising_at.Statement.{statement}
 use Rattle.motion.proofs.waves.rising_at.Tie as tie
 
-pub rising-at-spec : {M : Type 1} → statement M
+pub rising_at_spec : {M : Type 1} → statement M
 unfolding rising
-rising-at-spec =
+rising_at_spec =
     tie.close
     (tie.spec
     (λ c. search rules)

@@ -1,11 +1,11 @@
 -- A volume goes up or down by what the call gives.
-use Rattle.motion.proofs.Waving.{wavered-up, wavered-down}
+use Rattle.motion.proofs.Waving.{wavered_up, wavered_down}
 use borrow.Author.Rules.{rules}
 use Rattle.motion.proofs.waves.trembled.Statement.{statement}
 use Rattle.motion.proofs.waves.trembled.Tie as tie
 
-pub trembled-spec : {M : Type 1} → statement M
-trembled-spec =
+pub trembled_spec : {M : Type 1} → statement M
+trembled_spec =
     tie.close
     (tie.spec
     (λ c κs. search rules)
@@ -13,5 +13,5 @@ trembled-spec =
     (λ c κs. search rules)
     (λ c κs. search rules)
     (λ c κs. search rules)
-    (λ c. search (wavered-up, wavered-down, rules))
-    (λ c. search (wavered-up, wavered-down, rules)))
+    (λ c. search (wavered_up, wavered_down, rules))
+    (λ c. search (wavered_up, wavered_down, rules)))

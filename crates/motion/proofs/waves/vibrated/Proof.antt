@@ -1,11 +1,11 @@
 -- A period goes up or down by what the call gives.
-use Rattle.motion.proofs.Waving.{wavered-up, wavered-down}
+use Rattle.motion.proofs.Waving.{wavered_up, wavered_down}
 use borrow.Author.Rules.{rules}
 use Rattle.motion.proofs.waves.vibrated.Statement.{statement}
 use Rattle.motion.proofs.waves.vibrated.Tie as tie
 
-pub vibrated-spec : {M : Type 1} → statement M
-vibrated-spec =
+pub vibrated_spec : {M : Type 1} → statement M
+vibrated_spec =
     tie.close
     (tie.spec
     (λ c κs. search rules)
@@ -13,5 +13,5 @@ vibrated-spec =
     (λ c κs. search rules)
     (λ c κs. search rules)
     (λ c κs. search rules)
-    (λ c. search (wavered-up, wavered-down, rules))
-    (λ c. search (wavered-up, wavered-down, rules)))
+    (λ c. search (wavered_up, wavered_down, rules))
+    (λ c. search (wavered_up, wavered_down, rules)))

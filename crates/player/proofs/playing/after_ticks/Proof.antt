@@ -3,5 +3,5 @@ use Rattle.std.proofs.Common.{rules}
 use Rattle.player.proofs.playing.after_ticks.Statement.{statement}
 use Rattle.player.proofs.playing.after_ticks.Tie as tie
 
-pub after-ticks-spec : {M : Type 1} → statement M
-after-ticks-spec = tie.close (tie.spec (λ c κs. search rules) (λ c. rw c.accept.ensures))
+pub after_ticks_spec : {M : Type 1} → statement M
+after_ticks_spec = tie.close (tie.spec (λ c κs. search rules) (λ c. rw c.accept.ensures))

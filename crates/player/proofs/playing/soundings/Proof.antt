@@ -17,8 +17,8 @@ returns : tie.Need-returns invariant-loop decreases-loop
 unfolding soundings
 returns c = search (fills, rules)
 
-pub soundings-spec : {M : Type 1} → statement M
-soundings-spec =
+pub soundings_spec : {M : Type 1} → statement M
+soundings_spec =
     tie.close
     (tie.spec
     invariant-loop

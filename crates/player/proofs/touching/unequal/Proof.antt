@@ -7,5 +7,5 @@ denied : (a b : Bool) → not a || not b ≡ not (a && b)
 denied true b = refl
 denied false b = refl
 
-pub unequal-spec : {M : Type 1} → statement M
-unequal-spec = tie.close (tie.spec (λ c. search (denied, rules)))
+pub unequal_spec : {M : Type 1} → statement M
+unequal_spec = tie.close (tie.spec (λ c. search (denied, rules)))

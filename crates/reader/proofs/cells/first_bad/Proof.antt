@@ -4,7 +4,7 @@ use mathlib.Core.Path.{◌≡◌}
 use mathlib.Core.Bool.{false}
 use Rattle.reader.specs.File.{lent}
 use borrow.Author.Rules.{rules}
-use Rattle.reader.specs.Judge.{badCell}
+use Rattle.reader.specs.Judge.{bad_cell}
 use Rattle.laws.specs.Search.{searches}
 use Rattle.laws.specs.Tests.{called}
 use Rattle.reader.proofs.cells.first_bad.Statement.{statement}
@@ -12,13 +12,13 @@ use Rattle.reader.proofs.cells.first_bad.Tie as tie
 use Rattle.laws.specs.Ranges.{some}
 
 abbrev invariant-loop : tie.invariant-loop
-invariant-loop layout file n i₀ i = (i ≤ n) × (some (badCell (lent layout file)) i ≡ false)
+invariant-loop layout file n i₀ i = (i ≤ n) × (some (bad_cell (lent layout file)) i ≡ false)
 
 abbrev decreases-loop : tie.decreases-loop
 decreases-loop layout file n i₀ i = n - i
 
-pub first-bad-spec : {M : Type 1} → statement M
-first-bad-spec =
+pub first_bad_spec : {M : Type 1} → statement M
+first_bad_spec =
     tie.close
     (tie.spec
     invariant-loop

@@ -1,7 +1,7 @@
 -- The number that is tested is the period, or too large where the sample number is.
 use Prim.Native.Nat.{◌+◌}
-use Rattle.reader.specs.Judge.{badAt, badNumberAt, badPeriodAt}
-use Rattle.reader.proofs.Laws.{cell-test}
+use Rattle.reader.specs.Judge.{bad_at, bad_number_at, bad_period_at}
+use Rattle.reader.proofs.Laws.{cell_test}
 use lib.ListN.{get_or}
 use native.Mathlib.Omega.{arith}
 use borrow.Author.Rules.{rules}
@@ -9,8 +9,8 @@ use Rattle.reader.proofs.cells.is_bad.Statement.{statement}
 use Rattle.reader.proofs.cells.is_bad.Tie as tie
 
 returns : tie.Need-returns
-unfolding badAt badNumberAt badPeriodAt
-returns c = cell-test _ (get_or c.before.before.before.before.before.args.file.now c.before.before.before.before.before.args.at 0) (get_or c.before.before.before.before.before.args.file.now (c.before.before.before.before.before.args.at + 1) 0) (get_or c.before.before.before.before.before.args.file.now (c.before.before.before.before.before.args.at + 2) 0) c.before.pair.result c.seen.result c.before.before.before.before.before.requires.0.sixteens (omega (arith, c.before.before.shared-slice-known3.given c.before.before.before.before.before.args.at)) (omega (arith, c.before.before.shared-slice-known3.given (c.before.before.before.before.before.args.at + 1))) (omega (arith, c.before.before.shared-slice-known3.given (c.before.before.before.before.before.args.at + 2))) c.before.pair.ensures.0 c.seen.ensures.0 c.seen.ensures.1
+unfolding bad_at bad_number_at bad_period_at
+returns c = cell_test _ (get_or c.before.before.before.before.before.args.file.now c.before.before.before.before.before.args.at 0) (get_or c.before.before.before.before.before.args.file.now (c.before.before.before.before.before.args.at + 1) 0) (get_or c.before.before.before.before.before.args.file.now (c.before.before.before.before.before.args.at + 2) 0) c.before.pair.result c.seen.result c.before.before.before.before.before.requires.0.sixteens (omega (arith, c.before.before.shared-slice-known3.given c.before.before.before.before.before.args.at)) (omega (arith, c.before.before.shared-slice-known3.given (c.before.before.before.before.before.args.at + 1))) (omega (arith, c.before.before.shared-slice-known3.given (c.before.before.before.before.before.args.at + 2))) c.before.pair.ensures.0 c.seen.ensures.0 c.seen.ensures.1
 
-pub is-bad-spec : {M : Type 1} → statement M
-is-bad-spec = tie.close (tie.spec (λ c. search rules) (λ c. search rules) (λ c. search rules) (λ c κs. search rules) (λ c κs. search rules) returns)
+pub is_bad_spec : {M : Type 1} → statement M
+is_bad_spec = tie.close (tie.spec (λ c. search rules) (λ c. search rules) (λ c. search rules) (λ c κs. search rules) (λ c κs. search rules) returns)

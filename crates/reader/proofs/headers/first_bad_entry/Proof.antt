@@ -5,28 +5,28 @@ use mathlib.Core.Path.{◌≡◌}
 use mathlib.Core.Bool.{false}
 use Rattle.reader.specs.File.{lent}
 use borrow.Author.Rules.{rules}
-use Rattle.reader.specs.Judge.{badEntry}
+use Rattle.reader.specs.Judge.{bad_entry}
 use Rattle.laws.specs.Tests.{tests}
 use Rattle.reader.proofs.headers.first_bad_entry.Statement.{statement}
 use Rattle.reader.proofs.headers.first_bad_entry.Tie as tie
 use Rattle.laws.specs.Ranges.{some}
 
 abbrev invariant-loop : tie.invariant-loop
-invariant-loop layout file i₀ i = (i ≤ 128) × (some (badEntry (lent layout file)) i ≡ false)
+invariant-loop layout file i₀ i = (i ≤ 128) × (some (bad_entry (lent layout file)) i ≡ false)
 
 abbrev decreases-loop : tie.decreases-loop
 decreases-loop layout file i₀ i = 128 - i
 
 returns : tie.Need-returns invariant-loop decreases-loop
-unfolding badEntry
+unfolding bad_entry
 returns c = search (searches, tests, rules)
 
-loop-again : tie.Need-loop-preserved invariant-loop decreases-loop
-unfolding badEntry
-loop-again c = search (searches, tests, rules)
+loop_again : tie.Need-loop-preserved invariant-loop decreases-loop
+unfolding bad_entry
+loop_again c = search (searches, tests, rules)
 
-pub first-bad-entry-spec : {M : Type 1} → statement M
-first-bad-entry-spec =
+pub first_bad_entry_spec : {M : Type 1} → statement M
+first_bad_entry_spec =
     tie.close
     (tie.spec
     invariant-loop
@@ -37,5 +37,5 @@ first-bad-entry-spec =
     returns
     (λ c. search rules)
     (λ c. search rules)
-    loop-again
+    loop_again
     (λ c. search (searches, rules)))

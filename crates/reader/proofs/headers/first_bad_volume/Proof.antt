@@ -1,6 +1,6 @@
 -- The loop: no volume passed is above 64.
 use borrow.Author.Rules.{rules}
-use Rattle.reader.specs.Judge.{badVolume}
+use Rattle.reader.specs.Judge.{bad_volume}
 use Rattle.reader.specs.File.{lent}
 use Rattle.laws.specs.Tests.{tests}
 use Rattle.laws.specs.Search.{searches}
@@ -12,21 +12,21 @@ use Rattle.reader.proofs.headers.first_bad_volume.Tie as tie
 use Rattle.laws.specs.Ranges.{some}
 
 abbrev invariant-loop : tie.invariant-loop
-invariant-loop layout file k₀ k = (k ≤ layout.samples) × (some (badVolume (lent layout file)) k ≡ false)
+invariant-loop layout file k₀ k = (k ≤ layout.samples) × (some (bad_volume (lent layout file)) k ≡ false)
 
 abbrev decreases-loop : tie.decreases-loop
 decreases-loop layout file k₀ k = layout.samples - k
 
 returns : tie.Need-returns invariant-loop decreases-loop
-unfolding badVolume
+unfolding bad_volume
 returns c = search (searches, tests, rules)
 
-loop-again : tie.Need-loop-preserved invariant-loop decreases-loop
-unfolding badVolume
-loop-again c = search (searches, tests, rules)
+loop_again : tie.Need-loop-preserved invariant-loop decreases-loop
+unfolding bad_volume
+loop_again c = search (searches, tests, rules)
 
-pub first-bad-volume-spec : {M : Type 1} → statement M
-first-bad-volume-spec =
+pub first_bad_volume_spec : {M : Type 1} → statement M
+first_bad_volume_spec =
     tie.close
     (tie.spec
     invariant-loop
@@ -39,5 +39,5 @@ first-bad-volume-spec =
     returns
     (λ c. search rules)
     (λ c. search rules)
-    loop-again
+    loop_again
     (λ c. search (searches, rules)))

@@ -14,8 +14,8 @@ invariant-loop layout file top₀ i₀ top i = (i ≤ 128) × (top ≡ largest (
 abbrev decreases-loop : tie.decreases-loop
 decreases-loop layout file top₀ i₀ top i = 128 - i
 
-pub largest-entry-spec : {M : Type 1} → statement M
-largest-entry-spec =
+pub largest_entry_spec : {M : Type 1} → statement M
+largest_entry_spec =
     tie.close
     (tie.spec
     invariant-loop

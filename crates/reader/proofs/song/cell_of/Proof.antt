@@ -3,8 +3,8 @@ use borrow.Author.Rules.{rules}
 use Rattle.reader.proofs.song.cell_of.Statement.{statement}
 use Rattle.reader.proofs.song.cell_of.Tie as tie
 
-pub cell-of-spec : {M : Type 1} → statement M
-cell-of-spec =
+pub cell_of_spec : {M : Type 1} → statement M
+cell_of_spec =
     tie.close
     (tie.spec
     (λ c. search rules)

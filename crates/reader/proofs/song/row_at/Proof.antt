@@ -3,8 +3,8 @@ use borrow.Author.Rules.{rules}
 use Rattle.reader.proofs.song.row_at.Statement.{statement}
 use Rattle.reader.proofs.song.row_at.Tie as tie
 
-pub row-at-spec : {M : Type 1} → statement M
-row-at-spec =
+pub row_at_spec : {M : Type 1} → statement M
+row_at_spec =
     tie.close
     (tie.spec
     (λ c. search rules)

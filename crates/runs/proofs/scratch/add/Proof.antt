@@ -1,7 +1,7 @@
 -- The first cells so far are sums, and the others as they were; each has room for what is added.
 use borrow.Author.Rules.{rules}
 use Prim.Native.Nat.{◌-◌}
-use Rattle.runs.proofs.Weaving.{Adding, adding-none, adding-fits, adding-more, adding-end, adding-long}
+use Rattle.runs.proofs.Weaving.{Adding, adding_none, adding_fits, adding_more, adding_end, adding_long}
 use Rattle.runs.proofs.scratch.add.Statement.{statement}
 use Rattle.runs.proofs.scratch.add.Tie as tie
 
@@ -11,20 +11,20 @@ invariant-loop from count to₀ k₀ to k = Adding from count to₀ to k
 abbrev decreases-loop : tie.decreases-loop
 decreases-loop from count to₀ k₀ to k = count - k
 
-loop-holds : tie.Need-loop-init invariant-loop decreases-loop
-loop-holds c = search (adding-none, rules)
+loop_holds : tie.Need-loop-init invariant-loop decreases-loop
+loop_holds c = search (adding_none, rules)
 
-add-z : tie.Need-overflow-add-z invariant-loop decreases-loop
-add-z c = search (adding-fits, rules)
+add_z : tie.Need-overflow-add-z invariant-loop decreases-loop
+add_z c = search (adding_fits, rules)
 
-loop-again : tie.Need-loop-preserved invariant-loop decreases-loop
-loop-again c = search (adding-more, rules)
+loop_again : tie.Need-loop-preserved invariant-loop decreases-loop
+loop_again c = search (adding_more, rules)
 
 same_length : tie.Need-same-length invariant-loop decreases-loop
-same_length c = search (adding-long, rules)
+same_length c = search (adding_long, rules)
 
 returns : tie.Need-returns invariant-loop decreases-loop
-returns c = search (adding-end, rules)
+returns c = search (adding_end, rules)
 
 pub add_spec : {M : Type 1} → statement M
 add_spec =
@@ -32,16 +32,16 @@ add_spec =
     (tie.spec
     invariant-loop
     decreases-loop
-    loop-holds
+    loop_holds
     (λ c. search rules)
     (λ c. search rules)
     (λ c. search rules)
     (λ c. search rules)
-    add-z
+    add_z
     (λ c. search rules)
     (λ c. search rules)
     (λ c. search rules)
     (λ c. search rules)
-    loop-again
+    loop_again
     same_length
     returns)

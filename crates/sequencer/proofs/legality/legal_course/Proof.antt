@@ -1,13 +1,13 @@
 -- The same tests, joined in the same order.
 use Rattle.laws.specs.Ranges.{all, all_from}
-use Rattle.sequencer.specs.Legal.{legalCourse}
+use Rattle.sequencer.specs.Legal.{legal_course}
 use Rattle.std.proofs.Common.{rules}
 use Rattle.sequencer.proofs.legality.legal_course.Statement.{statement}
 use Rattle.sequencer.proofs.legality.legal_course.Tie as tie
 
-pub legal-course-spec : {M : Type 1} → statement M
-unfolding legalCourse all all_from
-legal-course-spec =
+pub legal_course_spec : {M : Type 1} → statement M
+unfolding legal_course all all_from
+legal_course_spec =
     tie.close
     (tie.spec
     (λ c κs. search rules)

@@ -1,13 +1,13 @@
 -- The test is that of the definition.
 use Rattle.laws.specs.Tests.{tests}
-use Rattle.sequencer.specs.Legal.{legalOrFresh}
+use Rattle.sequencer.specs.Legal.{legal_or_fresh}
 use Rattle.std.proofs.Common.{rules}
 use Rattle.sequencer.proofs.legality.legal_or_fresh.Statement.{statement}
 use Rattle.sequencer.proofs.legality.legal_or_fresh.Tie as tie
 
-pub legal-or-fresh-spec : {M : Type 1} → statement M
-unfolding legalOrFresh
-legal-or-fresh-spec =
+pub legal_or_fresh_spec : {M : Type 1} → statement M
+unfolding legal_or_fresh
+legal_or_fresh_spec =
     tie.close
     (tie.spec
     (λ c. search rules)

@@ -4,9 +4,9 @@ use Rattle.std.proofs.Common.{rules}
 use Rattle.sequencer.proofs.next.advanced.Statement.{statement}
 use Rattle.sequencer.proofs.next.advanced.Tie as tie
 
-pub advanced-spec : {M : Type 1} → statement M
+pub advanced_spec : {M : Type 1} → statement M
 unfolding advanced
-advanced-spec =
+advanced_spec =
     tie.close
     (tie.spec
     (λ c κs. search rules)

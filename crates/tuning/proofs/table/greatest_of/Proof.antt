@@ -5,8 +5,8 @@ use borrow.Author.Rules.{rules}
 use Rattle.tuning.proofs.table.greatest_of.Statement.{statement}
 use Rattle.tuning.proofs.table.greatest_of.Tie as tie
 
-pub greatest-of-spec : {M : Type 1} → statement M
-greatest-of-spec =
+pub greatest_of_spec : {M : Type 1} → statement M
+greatest_of_spec =
     tie.close
     (tie.spec
     (λ c κs. search rules)

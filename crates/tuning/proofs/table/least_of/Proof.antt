@@ -5,8 +5,8 @@ use borrow.Author.Rules.{rules}
 use Rattle.tuning.proofs.table.least_of.Statement.{statement}
 use Rattle.tuning.proofs.table.least_of.Tie as tie
 
-pub least-of-spec : {M : Type 1} → statement M
-least-of-spec =
+pub least_of_spec : {M : Type 1} → statement M
+least_of_spec =
     tie.close
     (tie.spec
     (λ c κs. search rules)

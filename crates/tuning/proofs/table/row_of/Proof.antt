@@ -6,9 +6,9 @@ use Rattle.tuning.proofs.Places.{row_by, past_all, no_row}
 use Rattle.tuning.proofs.table.row_of.Statement.{statement}
 use Rattle.tuning.proofs.table.row_of.Tie as tie
 
-pub row-of-spec : {M : Type 1} → statement M
+pub row_of_spec : {M : Type 1} → statement M
 unfolding row_of each entry printed
-row-of-spec =
+row_of_spec =
     tie.close
     (tie.spec
     (λ c. search (row_by, rules))
