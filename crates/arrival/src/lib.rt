@@ -1,5 +1,6 @@
 // How far a stream has arrived: its header's numbers, the records that are played, and the bytes of the header or record that is open.
 // Records are read by the decoder, of the bytes that are in.
+#![tactic(auto)]
 ghost use Rattle.std.specs.Prelude.{◌≡◌, true, ◌+◌, ◌^◌, ◌≤◌, ◌<◌, length, take, leb};
 ghost use Rattle.std.proofs.lemmas.List.Edits.{sets};
 ghost use Rattle.common.specs.Limits.{width};
@@ -22,7 +23,7 @@ pub const KEPT_BYTES: usize = 52;
 
 // The bytes that are taken are the place of the open header or record and its kept bytes; while the header is open the place is 0.
 // A fault is kept: its number, and its place.
-#[derive(Drop)]
+#[derive(Clone, Copy)]
 pub struct Arrival {
     pub place: u64,
     pub kept: usize,
@@ -40,7 +41,7 @@ pub struct Arrival {
 const NO_STATE: u32 = 14;
 
 // What a byte did: whether it completed a record, whose tick it is, and how far the stream has arrived then.
-#[derive(Drop)]
+#[derive(Clone, Copy)]
 pub struct Took {
     pub whole: bool,
     pub tick: Tick,

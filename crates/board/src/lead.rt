@@ -13,7 +13,7 @@ use reader::{Extent, Layout};
 use ticks::Command;
 
 // Where a play begins: the machine, the registers, the place of the next record, and how many records are left.
-#[derive(Drop)]
+#[derive(Clone, Copy)]
 pub struct Beginning {
     pub machine: Machine,
     pub registers: [Command; WIDTH],

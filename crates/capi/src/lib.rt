@@ -1,5 +1,6 @@
 // The C library: each public call on plain numbers and slices. An answer is number, place and count; number 0 is accepted. A state is
 // its cells, and any numbers may stand in them.
+#![tactic(auto)]
 ghost use Rattle.std.specs.Prelude.{◌≡◌};
 ghost use Rattle.reader.specs.File.{channel_count, module_of};
 ghost use Rattle.reader.specs.Judge.{judge_of};

@@ -1,4 +1,5 @@
 // The files that a program is given as arguments: each is judged, or played.
+#![tactic(auto)]
 ghost use Rattle.io.specs.Counts.{IsPrefixLen};
 
 use libc::STDOUT_FILENO;

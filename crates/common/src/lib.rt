@@ -1,4 +1,5 @@
 // What every room shares: the limits of numbers, bytes and numbers of several bytes, and what a call answers.
+#![tactic(auto)]
 ghost use Rattle.std.specs.Prelude.{◌≡◌};
 ghost use Rattle.common.specs.Answers.{refused, accepted};
 
@@ -6,7 +7,7 @@ pub mod bytes;
 pub mod limits;
 
 // What a call answers: a refusal's number and place, with count 0; or 0, 0 and what the call counts.
-#[derive(Drop)]
+#[derive(Clone, Copy)]
 pub struct Answer {
     pub number: u32,
     pub place: usize,

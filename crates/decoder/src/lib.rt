@@ -1,5 +1,6 @@
 // The stream's decoder: judges any bytes as a stream (refusals 21, 22, 28 and 23), and reads it record by record, with the registers as its state.
 // The module that it is for gives the last sample number and the number of channels.
+#![tactic(auto)]
 ghost use Rattle.std.specs.Prelude.{◌≡◌, ◌^◌, ◌≤◌, ◌<◌, length};
 ghost use Rattle.common.specs.Limits.{width};
 ghost use Rattle.records.specs.Format.{least_place, records_place, known_version, keeps, shift, stream_channels, tick_count, first_record, at_first, read_record, decode_records, decode};
@@ -17,7 +18,7 @@ use ticks::{Command, Tick};
 mod channels;
 
 // A channel's command that was read, and the place after it; where it is bad or runs out (`short`) the register and the place before it.
-#[derive(Drop)]
+#[derive(Clone, Copy)]
 struct ChannelRead {
     ok: bool,
     short: bool,
@@ -27,7 +28,7 @@ struct ChannelRead {
 
 // All channels' commands that were read, and the place after them; where they are bad or run out the registers and the place before them.
 // The commands stand first: behind a flag they would be copied from an odd byte on, by loads across two stores, which wait for both.
-#[derive(Drop)]
+#[derive(Clone, Copy)]
 struct ChannelsRead {
     commands: [Command; WIDTH],
     next: usize,
@@ -37,7 +38,7 @@ struct ChannelsRead {
 
 // The record that was read, and the place after it; where it is bad, or runs out with nothing bad in it (`short`), a tick of the registers with
 // tempo 0, and the place before it.
-#[derive(Drop)]
+#[derive(Clone, Copy)]
 pub struct Record {
     pub ok: bool,
     pub short: bool,

@@ -1,4 +1,5 @@
 // The board that takes its stream as it arrives. Module and board are judged before a byte is taken.
+#![tactic(auto)]
 ghost use Rattle.std.specs.Prelude.{◌≡◌, true, ◌&&◌, ◌+◌, ◌-◌, ◌^◌, ◌≤◌, ◌<◌, length, eqb};
 ghost use Rattle.common.specs.Limits.{width, greatest_tempo};
 ghost use Rattle.common.specs.Answers.{outcome};
@@ -24,14 +25,14 @@ use ticks::{Command, Tick};
 use voice::Voice;
 
 // How far the stream has arrived, and the machine that plays it. Any numbers may stand in it.
-#[derive(Drop)]
+#[derive(Clone, Copy)]
 pub struct Board {
     pub arrival: Arrival,
     pub machine: Machine,
 }
 
 // What a call returns: its answer, how many bytes it took, and the board after it.
-#[derive(Drop)]
+#[derive(Clone, Copy)]
 pub struct Reply {
     pub answer: Answer,
     pub taken: usize,
@@ -39,7 +40,7 @@ pub struct Reply {
 }
 
 // What a byte or a record did: whether the buffer was too full for its tick, how many numbers it took, and the board after it.
-#[derive(Drop)]
+#[derive(Clone, Copy)]
 struct Moved {
     full: bool,
     size: usize,
@@ -48,7 +49,7 @@ struct Moved {
 }
 
 // The same, and the place after what was taken.
-#[derive(Drop)]
+#[derive(Clone, Copy)]
 struct Chunk {
     next: usize,
     moved: Moved,

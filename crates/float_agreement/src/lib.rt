@@ -1,4 +1,5 @@
 // Demand 3 for floats: a module played by itself and played by its stream, asked for the same sides, sound the same.
+#![tactic(auto)]
 ghost use Rattle.std.specs.Prelude.{◌≡◌, false, ◌≤◌, length};
 ghost use Rattle.reader.specs.File.{module_of};
 ghost use Rattle.reader.specs.Judge.{verdict};
@@ -12,7 +13,7 @@ use float_player::FloatReply;
 use floats::Pair;
 
 // What the three calls returned: the translator, the player and the stream player.
-#[derive(Drop)]
+#[derive(Clone, Copy)]
 pub struct FloatBoth {
     pub translated: Answer,
     pub played: FloatReply,

@@ -1,4 +1,5 @@
 // The stream player as 32-bit floats, for a page of one side or two. Module, sides and stream are judged before a frame is written.
+#![tactic(auto)]
 ghost use Rattle.std.specs.Prelude.{◌≡◌, ◌≤◌};
 ghost use Rattle.common.specs.Answers.{refused, accepted, outcome};
 ghost use Rattle.reader.specs.File.{lent};
@@ -15,7 +16,7 @@ use floats::Pair;
 use reader::Layout;
 
 // What the call returns: its answer, and the record of the last left and right.
-#[derive(Drop)]
+#[derive(Clone, Copy)]
 pub struct FloatAnswer {
     pub answer: Answer,
     pub pair: Pair,

@@ -1,4 +1,5 @@
 // The machine that plays floats: the one that player and board share, with the record of the last left and right, and one tick of it into a buffer.
+#![tactic(auto)]
 ghost use Rattle.std.specs.Prelude.{◌≡◌, ◌*◌, ◌<◌, ◌≤◌, length};
 ghost use Rattle.common.specs.Limits.{least_tempo, greatest_tempo};
 ghost use Rattle.ticks.specs.Play.{over};
@@ -18,7 +19,7 @@ use reader::{Extent, Layout};
 use ticks::Tick;
 
 // The shared machine, the last left and right, and the number of the next tick in the call.
-#[derive(Drop)]
+#[derive(Clone, Copy)]
 pub struct FloatMachine {
     pub machine: Machine,
     pub last: Pair,
@@ -26,7 +27,7 @@ pub struct FloatMachine {
 }
 
 // A tick played: whether the buffer was too full for it, how many numbers it took, and the machine after it.
-#[derive(Drop)]
+#[derive(Clone, Copy)]
 pub struct FloatTurn {
     pub full: bool,
     pub size: usize,

@@ -1,4 +1,5 @@
 // Playing as 32-bit floats, for a page of one side or two. The call judges the module again, and answers any state, sides and record.
+#![tactic(auto)]
 ghost use Rattle.std.specs.Prelude.{◌≡◌, ◌≤◌};
 ghost use Rattle.common.specs.Answers.{refused, accepted, outcome};
 ghost use Rattle.reader.specs.File.{lent};
@@ -16,7 +17,7 @@ use sequencer::Song;
 use voice::Voice;
 
 // What the call returns: its answer, the state after it, and the record of the last left and right.
-#[derive(Drop)]
+#[derive(Clone, Copy)]
 pub struct FloatReply {
     pub reply: Reply,
     pub pair: Pair,

@@ -1,4 +1,5 @@
 // Frames as 32-bit floats, for a page of one side or two.
+#![tactic(auto)]
 ghost use Rattle.std.specs.Prelude.{◌≡◌, ◌+◌, ◌≤◌, ◌+ℤ◌, length, replicate};
 ghost use Rattle.std.proofs.lemmas.List.Edits.{sets};
 ghost use Rattle.std.specs.Float.Ieee.{to_bits};
@@ -8,7 +9,7 @@ ghost use Rattle.floats.specs.Exact.{Exact};
 ghost use Rattle.floats.specs.Frames.{unasked, side_number, mono_number, is_zero, delivered, positive_zero, numbers_in, floats_of, pair_of, last_of};
 
 // A delivered frame: silence, one mono number, or a left and right number.
-#[derive(Drop)]
+#[derive(Clone, Copy)]
 pub enum Frame {
     Silence,
     Mono(f32),
@@ -16,7 +17,7 @@ pub enum Frame {
 }
 
 // The last left and right, with the number of their tick in the call.
-#[derive(Drop)]
+#[derive(Clone, Copy)]
 pub struct Pair {
     pub left: f32,
     pub right: f32,

@@ -1,4 +1,5 @@
 // Judges each file that is named as an argument.
+#![tactic(auto)]
 fn main() {
     case_files::judge_each()
 }

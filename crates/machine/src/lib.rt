@@ -1,4 +1,5 @@
 // The machine that player and board share, and one tick of it, into a buffer or passed by.
+#![tactic(auto)]
 ghost use Rattle.std.specs.Prelude.{◌≡◌, ◌+◌, ◌<◌, ◌≤◌, length};
 ghost use Rattle.reader.specs.File.{lent};
 ghost use Rattle.voice.specs.Modules.{samples_in};
@@ -16,7 +17,7 @@ use ticks::Tick;
 use voice::Voice;
 
 // A voice for each channel, the tempo of the tick before and the remainder that it left.
-#[derive(Drop)]
+#[derive(Clone, Copy)]
 pub struct Machine {
     pub voices: [Voice; WIDTH],
     pub tempo: u32,
@@ -24,7 +25,7 @@ pub struct Machine {
 }
 
 // A tick played: whether the buffer was too full for it, how many numbers it took, and the machine after it.
-#[derive(Drop)]
+#[derive(Clone, Copy)]
 pub struct Turn {
     pub full: bool,
     pub size: usize,

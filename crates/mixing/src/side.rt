@@ -71,7 +71,7 @@ fn sound(
 }
 
 // A side begun: the voices after its first channel, and the next channel that sounds on it, or the count.
-#[derive(Drop)]
+#[derive(Clone, Copy)]
 struct Begun {
     voices: [Voice; WIDTH],
     next: usize,

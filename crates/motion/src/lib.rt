@@ -1,4 +1,5 @@
 // How a period and a volume move: slides within their limits, and the waves of vibrato and tremolo.
+#![tactic(auto)]
 ghost use Rattle.std.specs.Prelude.{◌≡◌};
 ghost use Rattle.motion.specs.Waves.{fresh_wave};
 
@@ -7,7 +8,7 @@ pub mod slides;
 pub mod waves;
 
 // A wave of vibrato or tremolo: its x and y, from memory, its place and its form. Bytes, so that copying a channel stays cheap.
-#[derive(Drop)]
+#[derive(Clone, Copy)]
 pub struct Wave {
     pub x: u8,
     pub y: u8,

@@ -1,4 +1,5 @@
 // Plays each file that is named as an argument.
+#![tactic(auto)]
 fn main() {
     case_files::play_each()
 }

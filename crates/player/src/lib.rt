@@ -1,4 +1,5 @@
 // The player: states, play, touches and page changes. Every call judges the module again, and answers any state.
+#![tactic(auto)]
 ghost use Rattle.std.specs.Prelude.{◌≡◌};
 ghost use Rattle.common.specs.Answers.{refused, accepted, outcome};
 ghost use Rattle.player.specs.State.{fresh_state, reply};
@@ -20,7 +21,7 @@ mod quiet;
 mod touching;
 
 // A state: the song, its voices and the remainder of the tick before. Any numbers may stand in it.
-#[derive(Drop)]
+#[derive(Clone, Copy)]
 pub struct State {
     pub song: Song,
     pub voices: [Voice; WIDTH],
@@ -28,14 +29,14 @@ pub struct State {
 }
 
 // What a call returns: its answer, and the state after it.
-#[derive(Drop)]
+#[derive(Clone, Copy)]
 pub struct Reply {
     pub answer: Answer,
     pub state: State,
 }
 
 // What asking for the cause of quiet returns.
-#[derive(Drop)]
+#[derive(Clone, Copy)]
 pub enum Why {
     Refused(Answer),
     Because(Cause),

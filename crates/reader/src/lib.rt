@@ -1,4 +1,5 @@
 // The reader: judges any bytes as a module (refusals 1 to 9), and reads the cells and samples of an accepted one.
+#![tactic(auto)]
 ghost use Rattle.std.specs.Prelude.{◌≡◌, ◌+◌, ◌*◌, ◌≤◌, length};
 ghost use Rattle.common.specs.Answers.{refused, accepted, refusing};
 ghost use Rattle.reader.specs.File.{lent};
@@ -17,7 +18,7 @@ pub mod samples;
 pub mod song;
 
 // How many samples and channels a file has, and where its song length, table, tag and patterns lie.
-#[derive(Drop)]
+#[derive(Clone, Copy)]
 pub struct Layout {
     pub samples: usize,
     pub channels: usize,
@@ -28,7 +29,7 @@ pub struct Layout {
 }
 
 // A cell of a pattern. The effects E0 to EF have the numbers 224 to 239.
-#[derive(Drop)]
+#[derive(Clone, Copy)]
 pub struct Cell {
     pub sample: u32,
     pub period: u32,
@@ -37,7 +38,7 @@ pub struct Cell {
 }
 
 // Where a sample's bytes lie in the file; and, counted from its first byte, its end and its loop's first byte.
-#[derive(Drop)]
+#[derive(Clone, Copy)]
 pub struct Extent {
     pub from: usize,
     pub to: usize,

@@ -1,5 +1,6 @@
 // The sequencer: the song, what a tick does to it, and what the tick tells the voices. It never sees a voice: the sounding sample
 // numbers are handed to it beside the song.
+#![tactic(auto)]
 ghost use Rattle.std.specs.Prelude.{◌≡◌, ℕ, ◌+◌, ◌*◌, ◌^◌, ◌<◌, ◌≤◌, slice_index};
 ghost use Rattle.common.specs.Limits.{width};
 ghost use Rattle.ticks.specs.Commands.{sounding_of};
@@ -25,21 +26,21 @@ mod next;
 mod row;
 
 // A position of the song and a row.
-#[derive(Drop)]
+#[derive(Clone, Copy)]
 pub struct Place {
     pub position: u32,
     pub row: u32,
 }
 
 // The loop row and count.
-#[derive(Drop)]
+#[derive(Clone, Copy)]
 pub struct Loop {
     pub row: u32,
     pub count: u32,
 }
 
 // Where the song is, where it goes next, and its loop.
-#[derive(Drop)]
+#[derive(Clone, Copy)]
 pub struct Course {
     pub at: Place,
     pub next: Place,
@@ -47,7 +48,7 @@ pub struct Course {
 }
 
 // The tick in the row, the row's delay, and how fast ticks come.
-#[derive(Drop)]
+#[derive(Clone, Copy)]
 pub struct Time {
     pub tick: u32,
     pub delay: u32,
@@ -56,7 +57,7 @@ pub struct Time {
 }
 
 // What touches are held against.
-#[derive(Drop)]
+#[derive(Clone, Copy)]
 pub struct Desk {
     pub clock: u32,
     pub page: u32,
@@ -64,7 +65,7 @@ pub struct Desk {
 
 // The song's state, with the channels' own numbers. The desk, which a tick passes by, does not stand beside the channels: they are copied alone then,
 // 128 bytes in place, where 136 would be copied by a call.
-#[derive(Drop)]
+#[derive(Clone, Copy)]
 pub struct Song {
     pub desk: Desk,
     pub course: Course,
@@ -73,7 +74,7 @@ pub struct Song {
 }
 
 // The loop row and count on the way through a row, and the jump that it asks for.
-#[derive(Drop)]
+#[derive(Clone, Copy)]
 pub struct Looping {
     pub row: u32,
     pub count: u32,
@@ -82,7 +83,7 @@ pub struct Looping {
 }
 
 // Where B and D lead, if the row has one.
-#[derive(Drop)]
+#[derive(Clone, Copy)]
 pub struct Move {
     pub given: bool,
     pub position: u32,
@@ -90,7 +91,7 @@ pub struct Move {
 }
 
 // What a row's cells do to the song.
-#[derive(Drop)]
+#[derive(Clone, Copy)]
 pub struct Flow {
     pub time: Time,
     pub looping: Looping,
@@ -98,14 +99,14 @@ pub struct Flow {
 }
 
 // All channels after their work in a tick, and the commands to their voices.
-#[derive(Drop)]
+#[derive(Clone, Copy)]
 pub struct AllVoiced {
     pub channels: [Channel; WIDTH],
     pub commands: [Command; WIDTH],
 }
 
 // The song after a tick, and the tick.
-#[derive(Drop)]
+#[derive(Clone, Copy)]
 pub struct Worked {
     pub song: Song,
     pub tick: Tick,

@@ -130,7 +130,7 @@ pub fn row_of(finetune: u32) -> [u32; ROW_LENGTH]
 }
 
 // A row's first period, its greatest, and its last, its least.
-#[derive(Drop)]
+#[derive(Clone, Copy)]
 pub struct Ends {
     pub first: u32,
     pub last: u32,

@@ -5,7 +5,7 @@ ghost use Rattle.voice.specs.Quiet.{reads_zero, cause_of, cause_number};
 use crate::Voice;
 
 // Why a voice gives 0 in the next frame, the first that holds; or that it sounds.
-#[derive(Drop)]
+#[derive(Clone, Copy)]
 pub enum Cause {
     NoSample,
     NoPeriod,

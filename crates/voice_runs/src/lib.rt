@@ -1,4 +1,5 @@
 // Voices in runs: up to its sample's end a voice is a line through bytes, and its numbers are written byte by byte into cells, or passed by.
+#![tactic(auto)]
 ghost use Rattle.std.specs.Prelude.{◌≡◌, [], ◌+◌, ◌*◌, ◌<◌, ◌≤◌, length};
 ghost use Rattle.common.specs.LimitFacts.{LegalPeriod};
 ghost use Rattle.runs.specs.Cells.{Holds};
@@ -37,7 +38,7 @@ pub fn pace(period: u16) -> Pace
 }
 
 // One voice after a number of frames.
-#[derive(Drop)]
+#[derive(Clone, Copy)]
 struct Single {
     voice: Voice,
     frames: usize,

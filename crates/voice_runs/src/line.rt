@@ -16,7 +16,7 @@ use voice::{FRACTIONS, Voice};
 const LONGEST: u32 = 1024;
 
 // A voice's pace: how much its fraction grows in a frame, and the inverse of that.
-#[derive(Drop)]
+#[derive(Clone, Copy)]
 pub struct Pace {
     pub growth: u32,
     pub inverse: usize,
@@ -62,7 +62,7 @@ fn ahead(index: u32, end: u32) -> u32
 }
 
 // A voice's next frames as a line through its sample's bytes, from its index on. In a quiet one every byte counts as 0.
-#[derive(Drop)]
+#[derive(Clone, Copy)]
 pub struct Line {
     pub quiet: bool,
     pub growth: usize,
