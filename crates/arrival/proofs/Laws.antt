@@ -14,7 +14,7 @@ use borrow.Author.Tests.{le-leb, lt-leb, le-ltb, lt-ltb, eq-eqb, ne_eqb, not-tru
 use Rattle.common.specs.Bytes.{byte_at, four_at}
 use Rattle.common.specs.Answers.{refusing}
 use Rattle.ticks.specs.declared.Command.{Command}
-use Rattle.records.specs.Format.{version_place, least_place, counted_version, old_channels, known_version, version_of, shift, stream_channels, first_record, short, read, read_record}
+use Rattle.records.specs.Format.{version_place, least_place, counted_version, old_channels, known_version, version_of, shift, stream_channels, first_record, read, read_record}
 use Rattle.records.specs.Prefixes.{record_least, record_most, record_end}
 use Rattle.decoder.specs.declared.Record.{Record}
 use Rattle.decoder.specs.Answers.{unread, as_record}

@@ -1,6 +1,6 @@
 -- Bytes that arrive, by computation: which byte shows what. Registers 0, samples to 31, four channels.
 -- Assumes nothing.
-use Rattle.std.specs.Prelude.{ℕ, ◌+◌, ◌≡◌, refl, List, [], ◌∷◌, ◌++◌}
+use Rattle.std.specs.Prelude.{ℕ, ◌≡◌, refl, List, [], ◌∷◌, ◌++◌}
 use Rattle.laws.specs.Ranges.{all, all_from}
 use Rattle.common.specs.Bytes.{four_at}
 use Rattle.common.specs.Answers.{refusing}

@@ -1,6 +1,7 @@
 // How far a stream has arrived: its header's numbers, the records that are played, and the bytes of the header or record that is open.
 // Records are read by the decoder, of the bytes that are in.
 #![tactic(auto)]
+
 ghost use Rattle.std.specs.Prelude.{◌≡◌, true, ◌+◌, ◌^◌, ◌≤◌, ◌<◌, length, take, leb};
 ghost use Rattle.std.proofs.lemmas.List.Edits.{sets};
 ghost use Rattle.common.specs.Limits.{width};

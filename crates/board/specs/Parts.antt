@@ -8,7 +8,8 @@ use Rattle.common.specs.Answers.{accepted, Outcome, outcome}
 use Rattle.common.specs.declared.Answer.{Answer}
 use Rattle.ticks.specs.declared.Tick.{Tick}
 use Rattle.ticks.specs.Play.{Mechanism, after_all, rendered, fit}
-use Rattle.ticks.specs.PlayLaws.{rendered_append, fit_parts, play_parts}
+use Rattle.ticks.specs.PlayLaws.{rendered_append}
+use Rattle.ticks.proofs.PlayParts.{fit_parts, play_parts}
 use Rattle.reader.specs.File.{module_of, sample_count, channel_count}
 use Rattle.reader.specs.Judge.{verdict}
 use Rattle.reader.specs.Samples.{Sample}

@@ -17,15 +17,15 @@ use Rattle.decoder.specs.declared.Record.{Record}
 use Rattle.decoder.specs.Answers.{as_record}
 use Rattle.board.specs.Going.{Going, going_end, next, next_ready, going_more}
 
-module _ {A W : Type 0} (k : Mechanism A W Tick) (voicesOf : W → List Voice) (m : Module) (s : List ℕ) (count : ℕ) where
+module _ {A W : Type 0} (k : Mechanism A W Tick) (voices_of : W → List Voice) (m : Module) (s : List ℕ) (count : ℕ) where
   -- i ticks of these are played on w₀ and into out₀
   pub record Streaming (w₀ : W) (its : List Tick) (out₀ : List A) (w : W) (registers : List Command) (from : ℕ) (out : List A) (at i : ℕ) : Type 0 where
-    pub carries : Carries k voicesOf m
+    pub carries : Carries k voices_of m
     pub rest : List Tick
-    pub going : Going m s count (voicesOf w) registers from i rest
+    pub going : Going m s count (voices_of w) registers from i rest
     pub play : Playing k w₀ its out₀ w rest out at i
 
-  pub streaming_none : (w₀ : W) (its : List Tick) (out₀ : List A) (registers : List Command) (from : ℕ) → Carries k voicesOf m → Going m s count (voicesOf w₀) registers from 0 its → Streaming w₀ its out₀ w₀ registers from out₀ 0 0
+  pub streaming_none : (w₀ : W) (its : List Tick) (out₀ : List A) (registers : List Command) (from : ℕ) → Carries k voices_of m → Going m s count (voices_of w₀) registers from 0 its → Streaming w₀ its out₀ w₀ registers from out₀ 0 0
   streaming_none w₀ its out₀ registers from c g = record { carries = c; rest = its; going = g; play = playing_none k w₀ its out₀ }
 
   module _ {w₀ : W} {its : List Tick} {out₀ : List A} {w : W} {registers : List Command} {from : ℕ} {out : List A} {at i : ℕ} (g : Streaming w₀ its out₀ w registers from out at i) where
@@ -49,6 +49,6 @@ module _ {A W : Type 0} (k : Mechanism A W Tick) (voicesOf : W → List Voice) (
           record {
             carries = g.carries;
             rest = n.rest;
-            going = going_more g.going h r q (voicesOf x.machine) (rw v (g.carries.legal w r.tick (next_ready g.going h r q))) (λ j l. rw v (g.carries.sample w r.tick j l));
+            going = going_more g.going h r q (voices_of x.machine) (rw v (g.carries.legal w r.tick (next_ready g.going h r q))) (λ j l. rw v (g.carries.sample w r.tick j l));
             play = playing_turns k w₀ its out₀ w g.rest out at i g.play r.tick n.rest n.is x e f;
           }

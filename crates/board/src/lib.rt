@@ -1,5 +1,6 @@
 // The stream player: plays a stream's ticks with a module's samples. Module and stream are judged whole before a frame is written.
 #![tactic(auto)]
+
 ghost use Rattle.std.specs.Prelude.{◌≡◌};
 ghost use Rattle.common.specs.Answers.{outcome};
 ghost use Rattle.reader.specs.File.{lent};

@@ -1,6 +1,7 @@
 // A board that takes its stream as it arrives as cells, plain numbers at the C boundary: any numbers become a board, and every board cells.
 // What the C calls leave in the cells that they are lent.
 #![tactic(auto)]
+
 ghost use Rattle.std.specs.Prelude.{◌≡◌, ◌+◌, ◌≤◌, ◌<◌};
 ghost use Rattle.std.proofs.lemmas.List.Edits.{sets};
 ghost use Rattle.laws.specs.Ranges.{each};

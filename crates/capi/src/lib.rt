@@ -1,6 +1,7 @@
 // The C library: each public call on plain numbers and slices. An answer is number, place and count; number 0 is accepted. A state is
 // its cells, and any numbers may stand in them.
 #![tactic(auto)]
+
 ghost use Rattle.std.specs.Prelude.{◌≡◌};
 ghost use Rattle.reader.specs.File.{channel_count, module_of};
 ghost use Rattle.reader.specs.Judge.{judge_of};
@@ -104,9 +105,9 @@ pub extern "C" fn lampthistle_touch_burst(
     answers: &mut [u32],
     answer: &mut [u64; ANSWER_CELLS],
 )
-    ensures answered { answer.new ≡ answer_cells (burst_of file.now (state_of state.old) (record { pages = pages.entry.now; mades = mades.now; positions = positions.now }) answers.old).reply.answer }
-    ensures stated { state.new ≡ cells_after (burst_of file.now (state_of state.old) (record { pages = pages.entry.now; mades = mades.now; positions = positions.now }) answers.old).reply state.old }
-    ensures written { answers.new ≡ (burst_of file.now (state_of state.old) (record { pages = pages.entry.now; mades = mades.now; positions = positions.now }) answers.old).out }
+    ensures answered { answer.new ≡ answer_cells (burst_of file.now (state_of state.old) (record { pages = pages.now; mades = mades.now; positions = positions.now }) answers.old).reply.answer }
+    ensures stated { state.new ≡ cells_after (burst_of file.now (state_of state.old) (record { pages = pages.now; mades = mades.now; positions = positions.now }) answers.old).reply state.old }
+    ensures written { answers.new ≡ (burst_of file.now (state_of state.old) (record { pages = pages.now; mades = mades.now; positions = positions.now }) answers.old).out }
 {
     let reply = player::touch_burst(
         file,

@@ -1,5 +1,6 @@
 // A state as cells, plain numbers at the C boundary: any numbers become a state, and every state cells.
 #![tactic(auto)]
+
 ghost use Rattle.std.specs.Prelude.{◌≡◌, ◌+◌, ◌≤◌, ◌<◌, length};
 ghost use Rattle.std.proofs.lemmas.List.Edits.{sets};
 ghost use Rattle.laws.specs.Ranges.{each};

@@ -1,5 +1,6 @@
 // What every room shares: the limits of numbers, bytes and numbers of several bytes, and what a call answers.
 #![tactic(auto)]
+
 ghost use Rattle.std.specs.Prelude.{◌≡◌};
 ghost use Rattle.common.specs.Answers.{refused, accepted};
 

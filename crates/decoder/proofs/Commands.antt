@@ -19,7 +19,6 @@ use Rattle.records.specs.Legal.{legal_beside}
 use Rattle.records.specs.Format.{body_bytes, start_place, Read, bad, short, read, read_by, held, period_at, start_at, spelled, good_body, read_body, read_channel, read_channels, unused_bits}
 use Rattle.records.specs.Reads.{flag_read}
 use Rattle.decoder.specs.declared.ChannelRead.{ChannelRead}
-use Rattle.decoder.specs.declared.ChannelsRead.{ChannelsRead}
 use Rattle.decoder.specs.Answers.{no_channel, as_channel, no_channels, as_channels}
 
 -- ---- a channel

@@ -13,7 +13,7 @@ use Rattle.common.specs.Answers.{refused, accepted, refusing}
 use Rattle.common.specs.declared.Answer.{Answer}
 use Rattle.ticks.specs.declared.Command.{Command}
 use Rattle.ticks.specs.declared.Tick.{Tick}
-use Rattle.records.specs.Format.{version_place, least_place, head_bytes, tempo_place, known_version, version_of, stream_channels, tick_count, first_record, at_first, Read, bad, read_channels, read_tick, read_record, Decoded, refusal, ticks, with_tick, decode_records, decode_after, decode, count_place, records_place, short, read, read_by, unused_bits, read_bodies}
+use Rattle.records.specs.Format.{version_place, least_place, head_bytes, tempo_place, known_version, version_of, stream_channels, tick_count, first_record, at_first, Read, bad, read_channels, read_tick, read_record, Decoded, refusal, ticks, with_tick, decode_records, decode_after, decode, short, read, read_by, unused_bits, read_bodies}
 use Rattle.records.specs.Reads.{flag_read}
 use Rattle.decoder.specs.declared.ChannelsRead.{ChannelsRead}
 use Rattle.decoder.specs.declared.Record.{Record}

@@ -11,7 +11,7 @@ use Rattle.common.specs.Answers.{refusing}
 use Rattle.ticks.specs.declared.Command.{Command}
 use Rattle.ticks.specs.declared.Tick.{Tick}
 use Rattle.ticks.specs.Legal.{LegalTick, LegalTicks, more}
-use Rattle.records.specs.Format.{version_place, least_place, known_version, version_of, stream_channels, tick_count, first_record, at_first, Read, bad, read, read_record, Decoded, refusal, ticks, with_tick, decode_records, decode_after, decode, count_place, records_place, short, read_by}
+use Rattle.records.specs.Format.{version_place, least_place, known_version, version_of, stream_channels, tick_count, first_record, at_first, Read, bad, read, read_record, Decoded, refusal, ticks, with_tick, decode_records, decode_after, decode, short, read_by}
 use Rattle.records.specs.Reads.{on_either, on_good, passed, not-ticks, with_ticks, flag_read, flag_bad, flag_short}
 use Rattle.records.specs.Decoded.{stream_of_lem}
 use Rattle.decoder.specs.declared.Record.{Record}

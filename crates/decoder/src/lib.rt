@@ -1,6 +1,7 @@
 // The stream's decoder: judges any bytes as a stream (refusals 21, 22, 28 and 23), and reads it record by record, with the registers as its state.
 // The module that it is for gives the last sample number and the number of channels.
 #![tactic(auto)]
+
 ghost use Rattle.std.specs.Prelude.{◌≡◌, ◌^◌, ◌≤◌, ◌<◌, length};
 ghost use Rattle.common.specs.Limits.{width};
 ghost use Rattle.records.specs.Format.{least_place, records_place, known_version, keeps, shift, stream_channels, tick_count, first_record, at_first, read_record, decode_records, decode};

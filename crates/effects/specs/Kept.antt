@@ -1,9 +1,9 @@
 -- A channel's work keeps it legal, and its command is legal, for any channel of an accepted file.
 -- Assumes nothing.
-use Rattle.std.specs.Prelude.{ℕ, ◌-◌, ◌/◌, ◌%◌, ◌≤◌, ◌<◌, min, ◌≡◌, refl, Bool, true, false, cond, List, T, eqb}
+use Rattle.std.specs.Prelude.{ℕ, ◌-◌, ◌/◌, ◌%◌, ◌≤◌, ◌<◌, min, ◌≡◌, refl, Bool, false, cond, List, T, eqb}
 use Rattle.std.proofs.Common.{subst, arith}
 use borrow.Author.Tests.{eqb-false}
-use borrow.Author.Rules.{zero≤}
+use Rattle.std.proofs.Common.{zero-le}
 use Rattle.std.proofs.Math.Dec.{lit<}
 use Rattle.laws.specs.Choice.{either}
 use Rattle.laws.specs.Numbers.{cond-le}
@@ -82,7 +82,7 @@ module _ (m : Module) (a : Accepted m) (c : Cell) (lc : LegalCell (sample_count 
       record {
         latched = search (cond-le, lc, l);
         finetune = f;
-        volume = search (cond-le, louder_le, softer_le, smaller_le, zero≤, given_legal, l) depth 9;
+        volume = search (cond-le, louder_le, softer_le, smaller_le, zero-le, given_legal, l) depth 9;
         period = search (cond-period, lowered_legal, raised_legal, tuned_legal, noted_period, f, l) depth 9;
         target = search (cond-period, tuned_legal, noted_period, f, l);
         memory = remembered_le _ _ _ _ b l.memory;
@@ -96,7 +96,7 @@ module _ (m : Module) (a : Accepted m) (c : Cell) (lc : LegalCell (sample_count 
       record {
         latched = l.latched;
         finetune = l.finetune;
-        volume = search (cond-le, louder_le, softer_le, zero≤, l) depth 9;
+        volume = search (cond-le, louder_le, softer_le, zero-le, l) depth 9;
         period = search (cond-period, lowered_legal, raised_legal, towards_legal, l) depth 9;
         target = l.target;
         memory = l.memory;
@@ -157,7 +157,7 @@ cond-start : (last heard : ℕ) (b : Bool) (x y : Start) → LegalStart last hea
 cond-start last heard b x y p q = either (LegalStart last heard) b x y (λ e. p) (λ e. q)
 
 still_legal : (last heard : ℕ) → heard ≤ last → LegalStart last heard (still heard)
-still_legal last heard h = record { sample = h; offset = zero≤; stays = λ e. refl; plain = λ e. refl }
+still_legal last heard h = record { sample = h; offset = zero-le; stays = λ e. refl; plain = λ e. refl }
 
 begun_legal : (last heard sample offset : ℕ) → sample ≤ last → offset ≤ last_byte → LegalStart last heard (begun sample offset)
 begun_legal last heard sample offset h k = record { sample = h; offset = k; stays = λ e. absurd (subst T e tt); plain = λ e. absurd (subst T e tt) }
@@ -169,7 +169,7 @@ again_legal last heard offset h k = search (cond-start, still_legal, begun_legal
 module _ (last : ℕ) (c : Cell) (b : c.param ≤ last_byte) (heard : ℕ) (h : heard ≤ last) where
   start_legal : (u t latched : ℕ) → latched ≤ last → LegalStart last heard (start_for c u t latched heard)
   unfolding start_for row_start effect_start note_start tick_start
-  start_legal u t latched l = search (cond-start, still_legal, begun_legal, again_legal, zero≤, b, h, l) depth 12
+  start_legal u t latched l = search (cond-start, still_legal, begun_legal, again_legal, zero-le, b, h, l) depth 12
 
 -- ---- the main law of a channel: legal again, with a legal command
 module _ (m : Module) (a : Accepted m) (c : Cell) (lc : LegalCell (sample_count m) c) (b : c.param ≤ last_byte) (u t : ℕ) (ch : Channel) (l : LegalChannel (sample_count m) ch) (heard : ℕ) (h : heard ≤ sample_count m) where

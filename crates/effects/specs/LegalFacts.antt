@@ -2,7 +2,7 @@
 -- Assumes nothing.
 use Rattle.std.specs.Prelude.{ℕ, ◌≤◌, ◌≡◌, refl, true}
 use Rattle.std.proofs.Common.{le-leb, leb-true, eqb-true}
-use borrow.Author.Rules.{zero≤}
+use Rattle.std.proofs.Common.{zero-le}
 use Rattle.laws.specs.Every.{all_at, all_by, Each}
 use Rattle.common.specs.Limits.{loudest, last_byte}
 use Rattle.laws.specs.Ranges.{all, all_from}
@@ -72,4 +72,4 @@ channel_by last ch h =
 
 -- a fresh channel is legal
 pub fresh_channel_legal : (last : ℕ) → LegalChannel last fresh_channel
-fresh_channel_legal last = record { latched = zero≤; finetune = zero≤; volume = zero≤; period = silent; target = silent; memory = zero≤; vibrato = fresh_wave_legal; tremolo = fresh_wave_legal }
+fresh_channel_legal last = record { latched = zero-le; finetune = zero-le; volume = zero-le; period = silent; target = silent; memory = zero-le; vibrato = fresh_wave_legal; tremolo = fresh_wave_legal }

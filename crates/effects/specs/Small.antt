@@ -4,7 +4,6 @@ use Rattle.std.specs.Prelude.{ℕ, ◌≤◌, ◌≡◌, List}
 use Rattle.std.proofs.Common.{arith}
 use borrow.Author.Tests.{eq-eqb, ne_eqb}
 use Rattle.common.specs.Limits.{last_byte, last_word}
-use Rattle.common.specs.LimitFacts.{LegalPeriod}
 use Rattle.ticks.specs.Legal.{Spellable, period_small}
 use Rattle.reader.specs.declared.Cell.{Cell}
 use Rattle.effects.specs.LegalFacts.{LegalChannel}

@@ -1,36 +1,27 @@
 -- What the calls go by: 1 to 9, then 14, then the bytes or the close. Laws over plain variables.
 -- Assumes nothing.
-use Prim.Native.Nat.{ℕ, ◌+◌, ◌^◌, ◌≤◌, ◌<◌}
-use mathlib.Core.Path.{◌≡◌, refl, sym, ap, ◌∙◌}
-use mathlib.Core.Bool.{Bool, true, false, cond, not}
+use Prim.Native.Nat.{ℕ, ◌^◌, ◌<◌}
+use mathlib.Core.Path.{◌≡◌, ap, ◌∙◌}
+use mathlib.Core.Bool.{Bool, true, false, cond}
 use mathlib.Core.List.{List}
 use native.Mathlib.Omega.{arith}
 use lib.IntN.{ℤ}
-use lib.ListN.{length}
-use lib.Dec.{eqb, leb}
-use borrow.Author.Tests.{leb-true}
-use Rattle.laws.specs.Every.{all_at, first_of, second_of}
-use Rattle.common.specs.Limits.{width}
-use Rattle.common.specs.Bytes.{four_at}
 use Rattle.common.specs.Answers.{outcome}
 use Rattle.common.specs.declared.Answer.{Answer}
-use Rattle.reader.specs.File.{Module, lent, layout_of, module_of}
-use Rattle.reader.specs.Layouts.{LegalLayout}
+use Rattle.reader.specs.File.{lent, layout_of}
 use Rattle.reader.specs.Judge.{verdict}
 use Rattle.reader.specs.Samples.{extents_of}
 use Rattle.reader.specs.declared.Extent.{Extent}
 use Rattle.reader.specs.declared.Layout.{Layout}
-use Rattle.voice.specs.Voice.{samples_of}
 use Rattle.voice.specs.Modules.{samples_in}
-use Rattle.machine.specs.declared.Machine.{Machine}
 use Rattle.arrival.specs.declared.Arrival.{Arrival}
-use Rattle.arrival.specs.Arrive.{kept_bytes, taken, total, faulty, ended, shown, closed, most_records, legal_arrival}
+use Rattle.arrival.specs.Arrive.{taken, faulty, ended, shown, closed}
 use Rattle.arrival.specs.Feed.{fed}
 use Rattle.feed.specs.declared.Board.{Board}
 use Rattle.feed.specs.declared.Reply.{Reply}
-use Rattle.feed.specs.Feed.{registers_of, legal_board, refused_board, reply_since, feed_of, board_feed_of, board_close_of}
+use Rattle.feed.specs.Feed.{refused_board, reply_since, feed_of, board_feed_of, board_close_of}
 use Rattle.feed.specs.Sound.{Sound}
-use Rattle.feed.specs.Judged.{Legal, Judged, legal_sound, refused_board_lem, passed_board}
+use Rattle.feed.specs.Judged.{Judged, legal_sound, refused_board_lem, passed_board}
 
 module _ (layout : Layout) (bytes : List ℕ) (b : Board) (v : Answer) (j : Judged (lent layout bytes) b v) where
   pub judged_number : v.number ≡ 0 → (verdict (lent layout bytes)).number ≡ 0

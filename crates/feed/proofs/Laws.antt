@@ -1,19 +1,19 @@
 -- Laws of the board's machine and of one byte, in the form in which the code's tests and calls leave their facts.
 -- Assumes nothing.
-use Prim.Native.Nat.{ℕ, ◌+◌, ◌-◌, ◌^◌, ◌≤◌, ◌<◌}
-use mathlib.Core.Path.{◌≡◌, refl, sym, ap, ap₂, subst, ◌∙◌}
+use Prim.Native.Nat.{ℕ, ◌^◌, ◌≤◌, ◌<◌}
+use mathlib.Core.Path.{◌≡◌, refl, sym, ap, ◌∙◌}
 use mathlib.Core.Bool.{Bool, true, false, not, cond, ◌&&◌, true≢false}
-use mathlib.Core.List.{List, [], ◌∷◌, ◌++◌}
+use mathlib.Core.List.{List, []}
 use native.Mathlib.Omega.{arith}
-use lib.Dec.{T, eqb, ltb}
+use lib.Dec.{eqb, ltb}
 use lib.IntN.{ℤ}
-use lib.ListN.{length, get_or, drop}
-use borrow.Author.Tests.{eq-eqb, ne_eqb, eqb-true, eqb-false, le-ltb, ltb-true, ltb-false, not-true, not-false}
-use Rattle.laws.specs.Ranges.{each, all, all_from}
+use lib.ListN.{length, get_or}
+use borrow.Author.Tests.{eqb-true, eqb-false, le-ltb, not-true, not-false}
+use Rattle.laws.specs.Ranges.{all, all_from}
 use Rattle.laws.specs.Every.{first_of, second_of}
 use Rattle.laws.specs.Each.{Filled, fill_end}
 use Rattle.common.specs.Limits.{width, greatest_tempo}
-use Rattle.common.specs.Answers.{refused, accepted, refusing}
+use Rattle.common.specs.Answers.{refused, accepted}
 use Rattle.common.specs.AnswerLaws.{no_line, line_given, line_passed}
 use Rattle.common.specs.declared.Answer.{Answer}
 use Rattle.ticks.specs.declared.Command.{Command}
@@ -27,7 +27,6 @@ use Rattle.reader.specs.Accept.{verdict_answer, accepted_by, module_given, modul
 use Rattle.reader.specs.Samples.{Sample, extents_of}
 use Rattle.reader.specs.declared.Extent.{Extent}
 use Rattle.reader.specs.declared.Layout.{Layout}
-use Rattle.voice.specs.declared.Voice.{Voice}
 use Rattle.voice.specs.Frames.{blank}
 use Rattle.voice.specs.LegalFacts.{Ready}
 use Rattle.voice.specs.Legal.{legal_voices}
@@ -41,12 +40,12 @@ use Rattle.arrival.specs.declared.Took.{Took}
 use Rattle.arrival.specs.Arrive.{kept_bytes, bytes_of, taken, keep, Step, holds, plays, step, legal_arrival}
 use Rattle.arrival.specs.Answers.{as_took}
 use Rattle.arrival.specs.Ready as arriving
-use Rattle.arrival.specs.Feed.{Fed, fed, step_frames, step_after}
+use Rattle.arrival.specs.Feed.{fed, step_frames, step_after}
 use Rattle.feed.specs.declared.Board.{Board}
 use Rattle.feed.specs.Feed.{register_of, registers_of, kept_under, begun, left, frames_under, after_under, under, takes, legal_remainder, legal_board}
 use Rattle.feed.specs.Rule.{framed, afterwards}
 use Rattle.feed.specs.Sound.{Sound, tick_low, tick_high, tick_ready}
-use Rattle.feed.specs.Judged.{Begun, Tested, Legal, Judged}
+use Rattle.feed.specs.Judged.{Begun, Tested, Judged}
 
 -- ---- the registers
 pub registers_end : (w : Machine) (xs : List Command) (i : ℕ) → Filled (λ j. register_of (get_or w.voices j blank)) nothing width xs i → width ≤ i → xs ≡ registers_of w

@@ -13,7 +13,8 @@ use Rattle.common.specs.Answers.{accepted, outcome, refusing}
 use Rattle.ticks.specs.declared.Command.{Command}
 use Rattle.ticks.specs.declared.Tick.{Tick}
 use Rattle.ticks.specs.Play.{Mechanism, over, after_all, rendered, fit, play_out}
-use Rattle.ticks.specs.PlayLaws.{fit_append, fit_none}
+use Rattle.ticks.specs.PlayLaws.{fit_none}
+use Rattle.ticks.proofs.PlayParts.{fit_append}
 use Rattle.reader.specs.File.{Module, module_of, sample_count, channel_count}
 use Rattle.reader.specs.Layouts.{module_legal}
 use Rattle.reader.specs.Judge.{verdict}

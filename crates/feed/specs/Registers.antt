@@ -8,7 +8,6 @@ use mathlib.Core.List.{List}
 use Rattle.std.proofs.Math.Dec.{ltb}
 use Rattle.std.proofs.Math.ListN.{get_or, get_or-eq_default}
 use Rattle.laws.specs.Choice.{either}
-use Rattle.laws.specs.Ranges.{each}
 use Rattle.laws.specs.Each.{length-each, get_or-each, get_or-first}
 use Rattle.common.specs.Limits.{width}
 use Rattle.ticks.specs.declared.Command.{Command}

@@ -7,7 +7,8 @@ use Rattle.std.proofs.Math.Seq.{take-append-add}
 use borrow.Rule.Slice.PartMut.{put_mid}
 use Rattle.laws.specs.Lent.{tail_long, tail_back}
 use Rattle.ticks.specs.Play.{Mechanism, over, after_all, rendered, fit}
-use Rattle.ticks.specs.PlayLaws.{fit_append, play_append, after_append}
+use Rattle.ticks.specs.PlayLaws.{after_append}
+use Rattle.ticks.proofs.PlayParts.{fit_append, play_append}
 use Rattle.ticks.specs.Playing.{Playing, Played, playing_all}
 use Rattle.machine.specs.Turn.{Turned, turn_of}
 use Rattle.machine.specs.Turns.{turn_fits}

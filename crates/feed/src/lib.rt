@@ -1,5 +1,6 @@
 // The board that takes its stream as it arrives. Module and board are judged before a byte is taken.
 #![tactic(auto)]
+
 ghost use Rattle.std.specs.Prelude.{◌≡◌, true, ◌&&◌, ◌+◌, ◌-◌, ◌^◌, ◌≤◌, ◌<◌, length, eqb};
 ghost use Rattle.common.specs.Limits.{width, greatest_tempo};
 ghost use Rattle.common.specs.Answers.{outcome};
@@ -163,6 +164,7 @@ fn play_under(
 // ---- a byte
 
 // Takes a byte, where its numbers fit into the front of out.
+#[inline(always)]
 fn take_byte(
     layout: Layout,
     file: &[u8],
@@ -242,6 +244,7 @@ fn take_record(
 }
 
 // Takes the byte that stands at a place of the bytes.
+#[inline(always)]
 fn take_one(
     layout: Layout,
     file: &[u8],

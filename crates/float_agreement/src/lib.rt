@@ -1,5 +1,6 @@
 // Demand 3 for floats: a module played by itself and played by its stream, asked for the same sides, sound the same.
 #![tactic(auto)]
+
 ghost use Rattle.std.specs.Prelude.{◌≡◌, false, ◌≤◌, length};
 ghost use Rattle.reader.specs.File.{module_of};
 ghost use Rattle.reader.specs.Judge.{verdict};

@@ -6,7 +6,7 @@ use Rattle.common.specs.Answers.{accepted, Outcome, outcome, refusing}
 use Rattle.common.specs.declared.Answer.{Answer}
 use Rattle.ticks.specs.declared.Tick.{Tick}
 use Rattle.ticks.specs.Play.{Mechanism, after_all, fit, after_fit, play_out}
-use Rattle.ticks.specs.PlayLaws.{fit_parts, play_parts}
+use Rattle.ticks.proofs.PlayParts.{fit_parts, play_parts}
 use Rattle.reader.specs.File.{module_of, sample_count, channel_count}
 use Rattle.reader.specs.Judge.{verdict}
 use Rattle.voice.specs.Voice.{samples_of}

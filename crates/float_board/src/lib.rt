@@ -1,5 +1,6 @@
 // The stream player as 32-bit floats, for a page of one side or two. Module, sides and stream are judged before a frame is written.
 #![tactic(auto)]
+
 ghost use Rattle.std.specs.Prelude.{◌≡◌, ◌≤◌};
 ghost use Rattle.common.specs.Answers.{refused, accepted, outcome};
 ghost use Rattle.reader.specs.File.{lent};

@@ -1,5 +1,6 @@
 // The machine that plays floats: the one that player and board share, with the record of the last left and right, and one tick of it into a buffer.
 #![tactic(auto)]
+
 ghost use Rattle.std.specs.Prelude.{◌≡◌, ◌*◌, ◌<◌, ◌≤◌, length};
 ghost use Rattle.common.specs.Limits.{least_tempo, greatest_tempo};
 ghost use Rattle.ticks.specs.Play.{over};

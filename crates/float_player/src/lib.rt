@@ -1,5 +1,6 @@
 // Playing as 32-bit floats, for a page of one side or two. The call judges the module again, and answers any state, sides and record.
 #![tactic(auto)]
+
 ghost use Rattle.std.specs.Prelude.{◌≡◌, ◌≤◌};
 ghost use Rattle.common.specs.Answers.{refused, accepted, outcome};
 ghost use Rattle.reader.specs.File.{lent};

@@ -15,9 +15,9 @@ use Rattle.machine.specs.declared.Machine.{Machine}
 use Rattle.machine.specs.Machine.{after, mechanism}
 use Rattle.machine.specs.Kept.{after_voices, after_sample}
 
-pub record Carries {A W : Type 0} (k : Mechanism A W Tick) (voicesOf : W → List Voice) (m : Module) : Type 0 where
-  pub legal : (w : W) (t : Tick) → Ready m (extents_of m) (voicesOf w) t.commands → LegalVoices m.layout (extents_of m) (voicesOf (k.after w t))
-  pub sample : (w : W) (t : Tick) (i : ℕ) → i < channel_count m → (get_or (voicesOf (k.after w t)) i blank).sample ≡ (get_or t.commands i nothing).sample
+pub record Carries {A W : Type 0} (k : Mechanism A W Tick) (voices_of : W → List Voice) (m : Module) : Type 0 where
+  pub legal : (w : W) (t : Tick) → Ready m (extents_of m) (voices_of w) t.commands → LegalVoices m.layout (extents_of m) (voices_of (k.after w t))
+  pub sample : (w : W) (t : Tick) (i : ℕ) → i < channel_count m → (get_or (voices_of (k.after w t)) i blank).sample ≡ (get_or t.commands i nothing).sample
 
 -- a machine that has the shared one in it: a tick moves that as it moves it alone
 pub record Holds {A W : Type 0} (k : Mechanism A W Tick) (held : W → Machine) (keeps : Bool) (c : ℕ) (samples : ℕ → Sample) : Type 0 where

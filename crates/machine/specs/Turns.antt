@@ -10,7 +10,8 @@ use borrow.Author.Tests.{ltb-true, ltb-false, le-ltb}
 use borrow.Rule.Slice.PartMut.{put_mid}
 use Rattle.laws.specs.Lent.{tail_long, tail_back}
 use Rattle.ticks.specs.Play.{Mechanism, over}
-use Rattle.ticks.specs.Playing.{Playing, Played, playing_more, playing_full}
+use Rattle.ticks.specs.Playing.{Playing, Played}
+use Rattle.ticks.proofs.PlayingOn.{playing_more, playing_full}
 use Rattle.machine.specs.Turn.{Turned, turn, turn_of}
 
 -- ---- what a turn says

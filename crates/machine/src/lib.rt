@@ -1,5 +1,6 @@
 // The machine that player and board share, and one tick of it, into a buffer or passed by.
 #![tactic(auto)]
+
 ghost use Rattle.std.specs.Prelude.{◌≡◌, ◌+◌, ◌<◌, ◌≤◌, length};
 ghost use Rattle.reader.specs.File.{lent};
 ghost use Rattle.voice.specs.Modules.{samples_in};
@@ -52,6 +53,7 @@ pub fn fresh() -> Machine
 }
 
 // The remainder that a tick begins with.
+#[tactic(auto, unfolding(crate::specs::Lengths::carried_at))]
 pub fn carried_at(before: u32, remainder: u32, tempo: u32) -> u32
     requires { remainder ≤ greatest_tempo }
     ensures { (result ≡ carried_at before remainder tempo) × (result ≤ greatest_tempo) }
@@ -71,6 +73,7 @@ pub fn length_at(tempo: u32, remainder: u32) -> usize
 }
 
 // The remainder that it leaves: none by the old rule.
+#[tactic(auto, unfolding(crate::specs::Lengths::kept_at))]
 fn kept_at(keeps: bool, tempo: u32, remainder: u32) -> u32
     requires { (0 < tempo) × (remainder ≤ greatest_tempo) }
     ensures { result ≡ kept_at keeps tempo remainder }

@@ -1,5 +1,6 @@
 // Mixing voices into frames: the voices are told their commands, and their frames are mixed piece by piece, each side by itself, or passed by.
 #![tactic(auto)]
+
 ghost use Rattle.std.specs.Prelude.{◌≡◌, [], ◌++◌, ℕ, ◌*◌, ◌<◌, ◌≤◌, length, get_or, drop};
 ghost use Rattle.laws.specs.Ranges.{every, within};
 ghost use Rattle.laws.specs.Each.{Filled};

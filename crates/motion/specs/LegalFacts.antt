@@ -2,7 +2,7 @@
 -- Assumes nothing.
 use Rattle.std.specs.Prelude.{◌≤◌, ◌<◌, ◌≡◌, true}
 use Rattle.std.proofs.Common.{le-leb, leb-true, lt-ltb, ltb-true, eqb-true, lit<}
-use borrow.Author.Rules.{zero≤}
+use Rattle.std.proofs.Common.{zero-le}
 use Rattle.laws.specs.Every.{all_at, all_by, Each}
 use Rattle.laws.specs.Ranges.{all, all_from}
 use Rattle.motion.specs.Waves.{fresh_wave, last_memory, whole_wave, square_form}
@@ -43,4 +43,4 @@ wave_by w h = all_by _ (le-leb _ _ h.x, (le-leb _ _ h.y, (lt-ltb _ _ h.place, (l
 
 -- a fresh wave is legal
 pub fresh_wave_legal : LegalWave fresh_wave
-fresh_wave_legal = record { x = zero≤; y = zero≤; place = lit< tt; form = zero≤ }
+fresh_wave_legal = record { x = zero-le; y = zero-le; place = lit< tt; form = zero-le }

@@ -1,5 +1,6 @@
 // How a period and a volume move: slides within their limits, and the waves of vibrato and tremolo.
 #![tactic(auto)]
+
 ghost use Rattle.std.specs.Prelude.{◌≡◌};
 ghost use Rattle.motion.specs.Waves.{fresh_wave};
 

@@ -13,7 +13,8 @@ use Rattle.player.specs.State.{reply}
 use Rattle.player.specs.Legal.{Judged}
 use Rattle.player.specs.Touch.{touch_of}
 use Rattle.player.specs.Burst.{Burst, taken_from, most_touches, longest, burst_lines, burst_of}
-use Rattle.player.specs.Touching.{touch_from, burst_from, judged_once}
+use Rattle.player.specs.Touching.{touch_from, burst_from}
+use Rattle.player.proofs.JudgedOnce.{judged_once}
 use Rattle.player.specs.Keeps.{touch_judged}
 use Rattle.player.specs.Judging.{refused_state, passed_state}
 

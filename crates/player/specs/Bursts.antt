@@ -1,8 +1,9 @@
--- What holds of a burst: it keeps a legal state legal (`burst_keeps`), and a refused one changes nothing (`burst_refused_state`, `burst_refused_answers`).
+-- What holds of a burst: a refused one changes nothing (`burst_refused_state`, `burst_refused_answers`), and each of its touches meets a legal
+-- state. That it keeps a legal state legal follows in proofs/BurstKeeps.
 -- Assumes nothing.
-use Rattle.std.specs.Prelude.{◌≡◌, ℕ, zero, suc, true, List, length}
+use Rattle.std.specs.Prelude.{◌≡◌, ℕ, zero, suc, true, List}
 use Rattle.std.proofs.Math.Path.{refl}
-use Rattle.common.specs.AnswerLaws.{refusing_has, refused_keeps}
+use Rattle.common.specs.AnswerLaws.{refused_keeps}
 use Rattle.common.specs.Answers.{Outcome}
 use Rattle.reader.specs.File.{module_of}
 use Rattle.player.specs.declared.State.{State}
@@ -31,8 +32,3 @@ module _ (bytes : List ℕ) (b : Burst) (s : State) (l : legal_state (module_of 
   unfolding state_through
   through_keeps zero = l
   through_keeps (suc k) = touched_keeps bytes (state_through (touch_of bytes) b s k) (through_keeps k) _ _ _
-
-  -- a burst keeps a state legal, whether it is accepted or refused
-  pub burst_keeps : (answers : List ℕ) → legal_state (module_of bytes) (burst_of bytes s b answers).reply.state ≡ true
-  unfolding burst_of taken_from
-  burst_keeps answers = refusing_has (λ (o : Outcome Reply ℕ). legal_state (module_of bytes) o.reply.state ≡ true) _ _ _ (λ number place. l) (λ p. through_keeps (length b.pages))

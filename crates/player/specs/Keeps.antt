@@ -71,23 +71,23 @@ module _ (bytes : List ℕ) (e : (verdict (module_of bytes)).number ≡ 0) (s : 
   touch_judged page made position = rw (e, l)
 
 -- ---- ticks keep song and voices legal, on any machine that carries the voices
-module _ {A W : Type 0} (k : Mechanism A W Tick) (voicesOf : W → List Voice) (m : Module) (h : Carries k voicesOf m) (y : LegalLayout m.layout) (e : (verdict m).number ≡ 0) (b : Bytes m.bytes) where
-  ticks_kept : (j : ℕ) (song : Song) (w : W) → LegalVoiced m song (voicesOf w) → LegalVoiced m (song_after m j song (soundings (voicesOf w))) (voicesOf (after_all k w (ticks_from m j song (soundings (voicesOf w)))))
+module _ {A W : Type 0} (k : Mechanism A W Tick) (voices_of : W → List Voice) (m : Module) (h : Carries k voices_of m) (y : LegalLayout m.layout) (e : (verdict m).number ≡ 0) (b : Bytes m.bytes) where
+  ticks_kept : (j : ℕ) (song : Song) (w : W) → LegalVoiced m song (voices_of w) → LegalVoiced m (song_after m j song (soundings (voices_of w))) (voices_of (after_all k w (ticks_from m j song (soundings (voices_of w)))))
   unfolding song_after after_all ticks_from
   ticks_kept zero song w l = l
   ticks_kept (suc j) song w l =
-      let t = tick_of m song (soundings (voicesOf w)) in
-      subst (λ (sounding : List ℕ). LegalVoiced m (song_after m j t.song sounding) (voicesOf (after_all k (k.after w t.tick) (ticks_from m j t.song sounding))))
-      (after_soundings k voicesOf m h y e b song w l) (ticks_kept j t.song (k.after w t.tick) (tick_kept k voicesOf m h y e b song w l))
+      let t = tick_of m song (soundings (voices_of w)) in
+      subst (λ (sounding : List ℕ). LegalVoiced m (song_after m j t.song sounding) (voices_of (after_all k (k.after w t.tick) (ticks_from m j t.song sounding))))
+      (after_soundings k voices_of m h y e b song w l) (ticks_kept j t.song (k.after w t.tick) (tick_kept k voices_of m h y e b song w l))
 
   -- the samples that sound after them are the sequencer's
-  pub ticks_soundings : (j : ℕ) (song : Song) (w : W) → LegalVoiced m song (voicesOf w) → soundings (voicesOf (after_all k w (ticks_from m j song (soundings (voicesOf w))))) ≡ sounding_after m j song (soundings (voicesOf w))
+  pub ticks_soundings : (j : ℕ) (song : Song) (w : W) → LegalVoiced m song (voices_of w) → soundings (voices_of (after_all k w (ticks_from m j song (soundings (voices_of w))))) ≡ sounding_after m j song (soundings (voices_of w))
   unfolding sounding_after after_all ticks_from
   ticks_soundings zero song w l = refl
   ticks_soundings (suc j) song w l =
-      let t = tick_of m song (soundings (voicesOf w)) in
-      subst (λ (sounding : List ℕ). soundings (voicesOf (after_all k (k.after w t.tick) (ticks_from m j t.song sounding))) ≡ sounding_after m j t.song sounding)
-      (after_soundings k voicesOf m h y e b song w l) (ticks_soundings j t.song (k.after w t.tick) (tick_kept k voicesOf m h y e b song w l))
+      let t = tick_of m song (soundings (voices_of w)) in
+      subst (λ (sounding : List ℕ). soundings (voices_of (after_all k (k.after w t.tick) (ticks_from m j t.song sounding))) ≡ sounding_after m j t.song sounding)
+      (after_soundings k voices_of m h y e b song w l) (ticks_soundings j t.song (k.after w t.tick) (tick_kept k voices_of m h y e b song w l))
 
 -- ---- ticks keep the remainder below the tempo
 module _ (m : Module) (y : LegalLayout m.layout) (e : (verdict m).number ≡ 0) (b : Bytes m.bytes) where

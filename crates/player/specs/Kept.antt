@@ -70,15 +70,15 @@ module _ (m : Module) (y : LegalLayout m.layout) (e : (verdict m).number ≡ 0) 
             rw (← soundings_at vs i w) (tick_is_legal.commands i (rw (soundings_long vs) w));
       }
 
-module _ {A W : Type 0} (k : Mechanism A W Tick) (voicesOf : W → List Voice) (m : Module) (h : Carries k voicesOf m) (y : LegalLayout m.layout) (e : (verdict m).number ≡ 0) (b : Bytes m.bytes) (song : Song) (w : W) (l : LegalVoiced m song (voicesOf w)) where
+module _ {A W : Type 0} (k : Mechanism A W Tick) (voices_of : W → List Voice) (m : Module) (h : Carries k voices_of m) (y : LegalLayout m.layout) (e : (verdict m).number ≡ 0) (b : Bytes m.bytes) (song : Song) (w : W) (l : LegalVoiced m song (voices_of w)) where
   abbrev vs : List Voice
-  vs = voicesOf w
+  vs = voices_of w
 
   abbrev t : Tick
   t = (tick_of m song (soundings vs)).tick
 
   -- song and voices after the tick are legal
-  pub tick_kept : LegalVoiced m (tick_of m song (soundings vs)).song (voicesOf (k.after w t))
+  pub tick_kept : LegalVoiced m (tick_of m song (soundings vs)).song (voices_of (k.after w t))
   tick_kept =
       record {
         song = (run_kept m (accepted_has m e) b y.channels song (soundings vs) (state_run m y e b song vs l)).song;
@@ -86,16 +86,16 @@ module _ {A W : Type 0} (k : Mechanism A W Tick) (voicesOf : W → List Voice) (
       }
 
   -- the samples that sound after it are its commands'
-  pub after_soundings : soundings (voicesOf (k.after w t)) ≡ sounding_after_tick m song (soundings vs)
-  after_soundings = ext_get_or 0 (soundings (voicesOf (k.after w t))) (sounding_after_tick m song (soundings vs)) (soundings_long (voicesOf (k.after w t)) ∙ sym run.sounding.long) (λ i p. at i (rw (soundings_long (voicesOf (k.after w t))) at p))
+  pub after_soundings : soundings (voices_of (k.after w t)) ≡ sounding_after_tick m song (soundings vs)
+  after_soundings = ext_get_or 0 (soundings (voices_of (k.after w t))) (sounding_after_tick m song (soundings vs)) (soundings_long (voices_of (k.after w t)) ∙ sym run.sounding.long) (λ i p. at i (rw (soundings_long (voices_of (k.after w t))) at p))
     where
       run : LegalRun m (tick_of m song (soundings vs)).song (sounding_after_tick m song (soundings vs))
       run = run_kept m (accepted_has m e) b y.channels song (soundings vs) (state_run m y e b song vs l)
 
-      at : (i : ℕ) → i < width → slice_index (soundings (voicesOf (k.after w t))) i ≡ slice_index (sounding_after_tick m song (soundings vs)) i
-      at i low = soundings_at (voicesOf (k.after w t)) i low ∙ by (nat_lt i (channel_count m)) refl
+      at : (i : ℕ) → i < width → slice_index (soundings (voices_of (k.after w t))) i ≡ slice_index (sounding_after_tick m song (soundings vs)) i
+      at i low = soundings_at (voices_of (k.after w t)) i low ∙ by (nat_lt i (channel_count m)) refl
         where
-          by : (u : Bool) → nat_lt i (channel_count m) ≡ u → (slice_index_or (voicesOf (k.after w t)) i blank).sample ≡ slice_index (sounding_after_tick m song (soundings vs)) i
+          by : (u : Bool) → nat_lt i (channel_count m) ≡ u → (slice_index_or (voices_of (k.after w t)) i blank).sample ≡ slice_index (sounding_after_tick m song (soundings vs)) i
           by true q = h.sample w t i (ltb-true i (channel_count m) q) ∙ sym (get_or-sounding t.commands i)
           by false q = ap (λ (v : Voice). v.sample) (tick_kept.voices.rest i low (ltb-false i (channel_count m) q)) ∙ sym (run.sounding.rest i low (ltb-false i (channel_count m) q))
 

@@ -10,7 +10,8 @@ use Rattle.common.specs.Limits.{width}
 use Rattle.reader.specs.File.{Module, module_of, sample_count, channel_count}
 use Rattle.reader.specs.Accept.{accepted_has}
 use Rattle.reader.specs.Judge.{verdict}
-use Rattle.ticks.specs.PlayLaws.{fit_append, play_append, after_append}
+use Rattle.ticks.specs.PlayLaws.{after_append}
+use Rattle.ticks.proofs.PlayParts.{fit_append, play_append}
 use Rattle.reader.specs.Layouts.{LegalLayout, module_legal}
 use Rattle.reader.specs.Samples.{extents_of}
 use Rattle.sequencer.specs.RunLaws.{length-ticks, ticks_add, song_add, sounding_after, runs_ticks}

@@ -1,5 +1,6 @@
 // The player: states, play, touches and page changes. Every call judges the module again, and answers any state.
 #![tactic(auto)]
+
 ghost use Rattle.std.specs.Prelude.{◌≡◌};
 ghost use Rattle.common.specs.Answers.{refused, accepted, outcome};
 ghost use Rattle.player.specs.State.{fresh_state, reply};
@@ -138,7 +139,7 @@ pub fn touch_burst(
     positions: &[u32],
     answers: &mut [u32],
 ) -> Reply
-    ensures { outcome result answers.new ≡ burst_of file.now state (record { pages = pages.entry.now; mades = mades.now; positions = positions.now }) answers.old }
+    ensures { outcome result answers.new ≡ burst_of file.now state (record { pages = pages.now; mades = mades.now; positions = positions.now }) answers.old }
 {
     let layout = reader::offsets::layout_of(file);
     let judged = legality::judge_state(layout, file, state);

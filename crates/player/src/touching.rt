@@ -66,7 +66,7 @@ fn take_touches(
 ) -> Reply
     requires equal { (length pages.now ≡ length mades.now) × (length mades.now ≡ length positions.now) }
     requires room { length pages.now ≤ length answers.old }
-    ensures { outcome result answers.new ≡ taken_from (touch_from last) (record { pages = pages.entry.now; mades = mades.now; positions = positions.now }) state answers.old }
+    ensures { outcome result answers.new ≡ taken_from (touch_from last) (record { pages = pages.now; mades = mades.now; positions = positions.now }) state answers.old }
 {
     let n = pages.len();
     let mut after = state;
@@ -89,7 +89,7 @@ pub fn burst_from(
     positions: &[u32],
     answers: &mut [u32],
 ) -> Reply
-    ensures { outcome result answers.new ≡ burst_from last state (record { pages = pages.entry.now; mades = mades.now; positions = positions.now }) answers.old }
+    ensures { outcome result answers.new ≡ burst_from last state (record { pages = pages.now; mades = mades.now; positions = positions.now }) answers.old }
 {
     let most = longest(pages.len(), mades.len(), positions.len());
     if most > MOST_TOUCHES {

@@ -1,22 +1,21 @@
 -- What an accepted file is known to have: its cells and samples lie in it, and their numbers are in range.
 -- Assumes nothing.
 use Rattle.std.specs.Prelude.{ℕ, zero, suc, ◌+◌, ◌-◌, ◌*◌, ◌≤◌, ◌<◌, ◌≡◌, refl, Bool, true, false, cond, List, ◌∷◌, ltb, eqb, length}
-use Rattle.std.proofs.Common.{sym, ◌∙◌, ap, subst, arith, mul-le-mul_left}
+use Rattle.std.proofs.Common.{sym, ◌∙◌, ap, subst, arith}
 use borrow.Author.Tests.{lt-ltb, ltb-true, ltb-false, eq-eqb, ne_eqb, eqb-false, not-false, not-true}
 use Rattle.laws.specs.Tests.{or_parts, and_right}
 use Rattle.laws.specs.Search.{none_at, total_le, largest_le}
 use Rattle.common.specs.Answers.{refused, accepted, Line, refusing}
 use Rattle.reader.specs.File.{sample_count, channel_count, sample_words, header_volume, loop_start, loop_length, cells_in, sample_place, Module, last_pattern, song_length, entries, entry_of, cell_place, patterns_of}
-use Rattle.common.specs.Limits.{loudest, rows, last_row}
+use Rattle.common.specs.Limits.{loudest, rows}
 use Rattle.common.specs.declared.Answer.{Answer}
-use Rattle.reader.specs.Judge.{table, cell_lines, rest_lines, tagged, bad_length, bad_entry, bad_volume, bad_loop, number_at, period_at, bad_at, bad_cell, bad_number_at, bad_period_at, verdict, module_line}
-use Rattle.reader.specs.Cells.{cell_from, cell_offset, cell_at}
+use Rattle.reader.specs.Judge.{table, cell_lines, rest_lines, tagged, bad_length, bad_entry, bad_volume, bad_loop, bad_cell, verdict, module_line}
 use Rattle.reader.specs.Samples.{looped_of, end_of, first_of, extent_of}
 use Rattle.reader.specs.declared.Cell.{Cell}
 use Rattle.reader.specs.declared.Extent.{Extent}
-use Rattle.laws.specs.Ranges.{some, first}
+use Rattle.laws.specs.Ranges.{some}
 use Rattle.common.specs.AnswerLaws.{line_given, line_passed, refusing_has, line_not_given}
-use Rattle.common.specs.LimitFacts.{CellPeriod, cell_period_has}
+use Rattle.common.specs.LimitFacts.{CellPeriod}
 
 -- the table's lines, each as the fact that it was not given
 pub record Accepted (m : Module) : Type 0 where
@@ -117,30 +116,6 @@ module _ (m : Module) (a : Accepted m) where
   pub sample_inside : (k : ℕ) → k < sample_count m → sample_place m k + 2 * sample_words m.bytes k ≤ length m.bytes
   unfolding sample_place
   sample_inside k l = omega (arith, a.room, total_le (sample_words m.bytes) k (sample_count m) l)
-
-  -- the cell of any position below the song length, any row to 63 and any channel
-  module _ (position row channel : ℕ) (p : position < song_length m) (r : row ≤ last_row) (c : channel < channel_count m) where
-    abbrev index : ℕ
-    index = cells_in m.layout (rows * entry_of m position + row) + channel
-
-    -- a row of a pattern is one of all rows, and its cells are among all cells
-    in_row : index < cells_in m.layout (rows * patterns_of m)
-    in_row = omega (arith, mul-le-mul_left (channel_count m) (let h : rows * entry_of m position + row + 1 ≤ rows * patterns_of m = omega (arith, entry_named position (omega (arith, a.song.1))) in h))
-
-    pub cell_inside : cell_offset m position row channel + 3 < length m.bytes
-    cell_inside = omega (arith, patterns_inside, in_row)
-
-    good : (bad_number_at m (cell_offset m position row channel) ≡ false) × (bad_period_at m (cell_offset m position row channel) ≡ false)
-    unfolding bad_at
-    good = or_parts (bad_number_at m (cell_offset m position row channel)) (bad_period_at m (cell_offset m position row channel)) (a.cells index in_row)
-
-    pub cell_legal : LegalCell (sample_count m) (cell_at m position row channel)
-    unfolding cell_at cell_from bad_number_at bad_period_at
-    cell_legal =
-        record {
-          sample = ltb-false (sample_count m) (number_at m.bytes (cell_offset m position row channel)) good.0;
-          period = cell_period_has (period_at m.bytes (cell_offset m position row channel)) good.1;
-        }
 
 -- ---- the samples
 -- its part lies in the file, its end in the part, and its loop before its end

@@ -1,5 +1,6 @@
 // The reader: judges any bytes as a module (refusals 1 to 9), and reads the cells and samples of an accepted one.
 #![tactic(auto)]
+
 ghost use Rattle.std.specs.Prelude.{◌≡◌, ◌+◌, ◌*◌, ◌≤◌, length};
 ghost use Rattle.common.specs.Answers.{refused, accepted, refusing};
 ghost use Rattle.reader.specs.File.{lent};

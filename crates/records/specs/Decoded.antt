@@ -9,8 +9,7 @@ use Rattle.laws.specs.Tests.{or_parts}
 use Rattle.laws.specs.Choice.{either}
 use Rattle.laws.specs.Every.{second_of}
 use Rattle.common.specs.Limits.{least_tempo, greatest_tempo, between}
-use Rattle.common.specs.Bytes.{byte_at, four_at}
-use Rattle.laws.specs.Ranges.{all}
+use Rattle.common.specs.Bytes.{byte_at}
 use Rattle.common.specs.LimitFacts.{between_has}
 use Rattle.common.specs.AnswerLaws.{refusing_has}
 use Rattle.ticks.specs.Commands.{nothing, sounding_of}
@@ -21,7 +20,7 @@ use Rattle.records.specs.Legal.{legal_beside}
 use Rattle.records.specs.LegalLaws.{beside_has, Unused}
 use Rattle.records.specs.Registers.{Beside, nothing_legal, Holding, first_at, first_holding, take-holding, tick_holding}
 use Rattle.records.specs.Reads.{on_good, not-read, passed, not-ticks, with_ticks, then_good, short_not_read, missed}
-use Rattle.records.specs.Format.{stream_channels, tick_count, first_record, head_bytes, tempo_place, body_bytes, start_place, at_first, Read, bad, read, held, spelled, read_body, read_channel, read_channels, read_tick, read_record, Decoded, refusal, ticks, with_tick, decode_records, decode_after, decode, version_place, count_place, records_place, short, and_then, good_body, unused_bits, read_bodies}
+use Rattle.records.specs.Format.{stream_channels, tick_count, first_record, head_bytes, tempo_place, body_bytes, start_place, at_first, Read, bad, read, held, spelled, read_body, read_channel, read_channels, read_tick, read_record, Decoded, refusal, ticks, with_tick, decode_records, decode_after, decode, short, and_then, good_body, unused_bits, read_bodies}
 
 -- ---- what is read is legal
 body_legal : (last : ℕ) (s : List ℕ) (at : ℕ) (r c : Command) (n : ℕ) → read_body last s at r ≡ read c n → LegalCommand last r.sample c

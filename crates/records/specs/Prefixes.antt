@@ -1,7 +1,7 @@
 -- The bytes of a record that are in: reading them goes as reading all of the stream goes, or they run out (`record_agrees`). How long a record is at
 -- least and at most (`record_least`, `record_most`, `short_most`), and that it is read after the numbers that the registers hold, and no others (`record_alike`).
 -- Assumes nothing.
-use Rattle.std.specs.Prelude.{ℕ, zero, suc, ◌+◌, ◌*◌, ◌/◌, ◌%◌, ◌≤◌, ◌<◌, ◌≡◌, ◌&&◌, get_or, take, drop, eqb}
+use Rattle.std.specs.Prelude.{ℕ, zero, suc, ◌+◌, ◌*◌, ◌/◌, ◌%◌, ◌≤◌, ◌<◌, ◌≡◌, get_or, take, drop, eqb}
 use Rattle.std.proofs.Math.Path.{refl, sym}
 use Rattle.std.proofs.Common.{ap, ◌∙◌, true≢false, length-take, get_or-take}
 use Rattle.std.proofs.Math.Bool.{Bool, true, false, cond}
@@ -12,17 +12,15 @@ use Rattle.std.proofs.Math.Dec.{leb, ltb}
 use borrow.Author.Tests.{leb-true, le-leb, ltb-true, ltb-false, lt-ltb, le-ltb}
 use Rattle.laws.specs.Choice.{either}
 use Rattle.laws.specs.Every.{both, first_of, second_of}
-use Rattle.laws.specs.Lists.{take-each}
-use Rattle.common.specs.Limits.{least_tempo, greatest_tempo, between, last_byte}
+use Rattle.common.specs.Limits.{least_tempo, greatest_tempo, between}
 use Rattle.common.specs.LimitFacts.{LegalPeriod, silent}
-use Rattle.common.specs.Bytes.{byte_at, word_at}
+use Rattle.common.specs.Bytes.{byte_at}
 use Rattle.ticks.specs.declared.Command.{Command}
 use Rattle.ticks.specs.declared.Tick.{Tick}
 use Rattle.ticks.specs.Commands.{nothing}
-use Rattle.ticks.specs.Legal.{LegalCommand}
 use Rattle.records.specs.Legal.{legal_beside}
 use Rattle.records.specs.LegalLaws.{beside_has, beside_by}
-use Rattle.records.specs.Reads.{then_good, by_any, not-read, short_not_read, passed, missed}
+use Rattle.records.specs.Reads.{then_good, not-read, short_not_read, passed, missed}
 use Rattle.records.specs.Format.{head_bytes, tempo_place, body_bytes, start_place, Read, bad, short, read, read_by, and_then, held, period_at, start_at, spelled, good_body, read_body, read_channel, read_channels, read_tick, unused_bits, read_bodies, read_record}
 
 -- ---- two readings

@@ -8,7 +8,6 @@ use mathlib.Core.List.{List, [], ◌∷◌, ◌++◌, append_assoc}
 use native.Mathlib.Omega.{arith}
 use Rattle.std.proofs.Math.ListN.{length, drop, length-append}
 use borrow.Author.Tests.{eq-eqb, le-leb, le-ltb, eqb-true, lt-ltb}
-use Rattle.laws.specs.Ranges.{all, all_from}
 use Rattle.common.specs.LimitFacts.{between_by}
 use Rattle.common.specs.ByteLaws.{four_back, bit_back, bit_most}
 use Rattle.ticks.specs.Commands.{nothing, sounding_of}
@@ -23,7 +22,7 @@ use Rattle.records.specs.LegalLaws.{beside_by, Unused, AllUnused}
 use Rattle.records.specs.Registers.{first_at, Beside}
 use Rattle.records.specs.Length.{count_long, stream_length}
 use Rattle.records.specs.Marked.{lowest, half}
-use Rattle.records.specs.Format.{version_place, channels_place, count_place, least_place, head_bytes, tempo_place, body_bytes, start_place, counted_version, old_channels, known_version, version_of, shift, stream_channels, count_byte, at_first, changed, mask, command_bytes, channel_bytes, channels_bytes, record_bytes, records, stream_header, encode_after, encode, read, held, spelled, read_body, read_channel, read_channels, read_record, ticks, with_tick, decode_records, decode_after, decode, records_place, read_by, period_at, start_at, good_body, unused_bits, read_bodies}
+use Rattle.records.specs.Format.{version_place, channels_place, count_place, least_place, head_bytes, tempo_place, body_bytes, start_place, counted_version, old_channels, known_version, version_of, shift, stream_channels, count_byte, at_first, changed, mask, command_bytes, channel_bytes, channels_bytes, record_bytes, records, stream_header, encode_after, encode, read, held, spelled, read_body, read_channel, read_channels, read_record, ticks, with_tick, decode_records, decode_after, decode, read_by, period_at, start_at, good_body, unused_bits, read_bodies}
 
 -- ---- a channel
 command_back : (s : List ℕ) (at : ℕ) (c : Command) (rest : List ℕ) → drop at s ≡ command_bytes c ++ rest → at + body_bytes ≤ length s → spelled s at ≡ c

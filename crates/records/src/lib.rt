@@ -1,6 +1,7 @@
 // The records of the tick stream, written: a record's length and its bytes, and a stream's header.
 // Arrays have room for WIDTH channels, of which a stream has so many; the others are never written.
 #![tactic(auto)]
+
 ghost use Rattle.std.specs.Prelude.{◌≡◌, ◌+◌, ◌*◌, ◌≤◌, ◌<◌, length, take};
 ghost use Rattle.std.proofs.lemmas.List.Edits.{sets};
 ghost use Rattle.common.specs.Limits.{width};

@@ -1,5 +1,6 @@
 // What the C calls leave in the cells that they are lent: an answer's, a state's, and those of the record of the last left and right.
 #![tactic(auto)]
+
 ghost use Rattle.std.specs.Prelude.{◌≡◌};
 ghost use Rattle.player.specs.Quiet.{why_answer};
 ghost use Rattle.replies.specs.Answers.{answer_cells, cells_after};

@@ -1,5 +1,6 @@
 // Runs: the loops over cells of numbers. Nothing here knows voices.
 #![tactic(auto)]
+
 ghost use Rattle.std.specs.Prelude.{◌≡◌, ◌++◌, ◌≤◌, length, drop, replicate, pos};
 
 pub mod fills;

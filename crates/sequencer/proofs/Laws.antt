@@ -1,7 +1,7 @@
 -- What the functions of the song rest on: places and moves by their numbers, a row's few ticks, and the loops over the channels.
 -- Assumes nothing.
 use Rattle.std.proofs.Common.{◌≡◌, ℕ, ◌+◌, ◌*◌, ◌%◌, ◌^◌, ◌<◌, ◌≤◌, Bool, true, false, cond, ltb, List, length, get_or, set, replicate, sym, refl, ap, ◌∙◌, mul-le-mul, add-one, arith, ltb-false, le-ltb, lt-ltb, eq-eqb}
-use borrow.Author.Rules.{zero≤}
+use Rattle.std.proofs.Common.{zero-le}
 use Rattle.laws.specs.Ranges.{partly}
 use Rattle.laws.specs.Each.{each_by, same_parts, Parting, pad_begin, within_begin, part_again, part_end}
 use Rattle.common.specs.Limits.{width, last_byte}
@@ -76,7 +76,7 @@ pub record Flowed (m : Module) (at : Place) (f₀ : Flow) (positions : ℕ) (f :
 module _ (m : Module) (at : Place) (f₀ : Flow) (positions : ℕ) where
   pub flow_begin : positions ≡ song_length m → Flowed m at f₀ positions f₀ 0
   unfolding flow_through
-  flow_begin e = record { low = zero≤; length = e; flow = refl }
+  flow_begin e = record { low = zero-le; length = e; flow = refl }
 
   pub flow_again : (f g : Flow) (c : Cell) (row i : ℕ) → BeginsAt m at row → Flowed m at f₀ positions f i → i < channel_count m → c ≡ cell_from m.bytes (row + 4 * i) → g ≡ row_flow positions at.row c f → Flowed m at f₀ positions g (i + 1)
   unfolding flow_through
@@ -103,7 +103,7 @@ pub record Voicing (m : Module) (s : Song) (k : List ℕ) (row : ℕ) (all : All
 
 module _ (m : Module) (s : Song) (k : List ℕ) (row : ℕ) (all : AllVoiced) where
   pub voicing_begin : (positions : ℕ) → BeginsAt m s.course.at row → LegalSong positions m.layout s → ((j : ℕ) → j < channel_count m → Small (voiced_on m s k j)) → BeforeWork s.channels all → Voicing m s k row all 0
-  voicing_begin positions b l p w = record { begins = b; low = zero≤; small = p; rest = l.rest; depths = λ j h. record { vibrato = (l.channels j h).vibrato.y; tremolo = (l.channels j h).tremolo.y }; worked = rw w.same (within_begin _ _ _ s.channels w.long); told = pad_begin _ _ _ _ w.none (ap length w.none) }
+  voicing_begin positions b l p w = record { begins = b; low = zero-le; small = p; rest = l.rest; depths = λ j h. record { vibrato = (l.channels j h).vibrato.y; tremolo = (l.channels j h).tremolo.y }; worked = rw w.same (within_begin _ _ _ s.channels w.long); told = pad_begin _ _ _ _ w.none (ap length w.none) }
 
   pub voicing_depths : (i : ℕ) → Voicing m s k row all i → i < channel_count m → LegalDepths (get_or s.channels i fresh_channel)
   voicing_depths i w l = w.depths i l
@@ -159,7 +159,7 @@ pub record Sampling (cs : List Command) (c : ℕ) (xs : List ℕ) (i : ℕ) : Ty
 
 module _ (cs : List Command) (c : ℕ) (xs : List ℕ) where
   pub sampling_none : c ≤ width → length cs ≡ width → ((j : ℕ) → j < width → c ≤ j → get_or (sounding_of cs) j 0 ≡ 0) → xs ≡ replicate width 0 → Sampling cs c xs 0
-  sampling_none h l r e = record { room = h; long = l; rest = r; most = zero≤; filled = pad_begin _ _ _ _ e (ap length e) }
+  sampling_none h l r e = record { room = h; long = l; rest = r; most = zero-le; filled = pad_begin _ _ _ _ e (ap length e) }
 
   module _ (i : ℕ) (w : Sampling cs c xs i) where
     pub sampling_more : i < c → Sampling cs c (set xs i (get_or cs i nothing).sample) (i + 1)

@@ -3,7 +3,7 @@
 use Rattle.std.specs.Prelude.{◌≡◌, ℕ, zero, suc, ◌+◌, ◌%◌, ◌<◌, ◌≤◌, List, get_or, ◌==◌, slice_index, slice_index_or, refl}
 use Rattle.std.proofs.Math.Path.{sym}
 use Rattle.std.proofs.Common.{◌∙◌, arith, eqb-true, lit<, lit≤}
-use borrow.Author.Rules.{zero≤}
+use Rattle.std.proofs.Common.{zero-le}
 use Rattle.laws.specs.Choice.{either}
 use Rattle.laws.specs.Each.{get_or-each, length-partly, get_or-first, get_or-other, partly_each}
 use Rattle.common.specs.ByteLaws.{Bytes}
@@ -15,7 +15,8 @@ use Rattle.ticks.specs.Legal.{LegalCommand, LegalTick}
 use Rattle.ticks.specs.declared.Command.{Command}
 use Rattle.reader.specs.File.{Module, sample_count, channel_count, song_length}
 use Rattle.reader.specs.Cells.{cell_at, cell_from, cell_offset}
-use Rattle.reader.specs.Accept.{Accepted, LegalCell, cell_legal}
+use Rattle.reader.specs.Accept.{Accepted, LegalCell}
+use Rattle.reader.proofs.CellsInside.{cell_legal}
 use Rattle.reader.specs.declared.Layout.{Layout}
 use Rattle.effects.specs.Legal.{fresh_channel}
 use Rattle.effects.specs.LegalFacts.{fresh_channel_legal, LegalChannel}
@@ -69,7 +70,7 @@ advanced_legal positions layout s l chs h r = record { course = course_kept _ _ 
 
 -- ---- the tick
 nothing_legal : (last : ℕ) → LegalCommand last 0 nothing
-nothing_legal last = record { sample = zero≤; volume = zero≤; period = silent; offset = zero≤; stays = λ e. refl; plain = λ e. refl }
+nothing_legal last = record { sample = zero-le; volume = zero-le; period = silent; offset = zero-le; stays = λ e. refl; plain = λ e. refl }
 
 -- the song after a tick is legal
 module _ (m : Module) (a : Accepted m) (b : Bytes m.bytes) (room : channel_count m ≤ width) (s : Song) (l : LegalSong (song_length m) m.layout s) (sounding : List ℕ) (k : LegalSounding m sounding) where
@@ -101,7 +102,7 @@ unfolding fresh_song
 fresh_legal positions layout room h =
     record {
       course = position_begins positions 0 h;
-      time = record { speed = record { low = lit≤ tt; high = lit≤ tt }; delay = zero≤; tick = lit< tt; tempo = record { low = lit≤ tt; high = lit≤ tt } };
+      time = record { speed = record { low = lit≤ tt; high = lit≤ tt }; delay = zero-le; tick = lit< tt; tempo = record { low = lit≤ tt; high = lit≤ tt } };
       channels = λ i l. rw (get_or-each (λ j. fresh_channel) width i fresh_channel (omega arith)) (fresh_channel_legal layout.samples);
       rest = λ i w l. get_or-each (λ j. fresh_channel) width i fresh_channel w;
     }

@@ -3,7 +3,7 @@
 -- Assumes nothing.
 use Rattle.std.specs.Prelude.{ℕ, ◌+◌, ◌<◌, ◌≤◌, ◌==◌, nat_lt}
 use Rattle.std.proofs.Common.{arith, ltb-true}
-use borrow.Author.Rules.{zero≤}
+use Rattle.std.proofs.Common.{zero-le}
 use Rattle.laws.specs.Choice.{either}
 use Rattle.common.specs.Limits.{last_row}
 use Rattle.sequencer.specs.Songs.{no_loop, course_from, next_of, loop_after, course_by, row_ticks, next_tick, time_at, time_to, course_to}
@@ -22,10 +22,10 @@ next_legal positions at f z l h =
     either (LegalPlace positions) f.moving.given _ _ (λ e. record { position = h.moving.position; row = h.moving.row })
     (λ e. either (LegalPlace positions) f.looping.asked _ _ (λ a. record { position = l.position; row = h.looping.target })
     (λ a. either (LegalPlace positions) (nat_lt at.row last_row) _ _ (λ k. record { position = l.position; row = omega (arith, ltb-true at.row last_row k) })
-    (λ k. record { position = following_legal positions at.position z; row = zero≤ })))
+    (λ k. record { position = following_legal positions at.position z; row = zero-le })))
 
 no_loop_legal : LegalLoop no_loop
-no_loop_legal = record { row = zero≤; count = zero≤ }
+no_loop_legal = record { row = zero-le; count = zero-le }
 
 loop_legal : (positions row : ℕ) (f : Flow) → LegalFlow positions f → LegalLoop (loop_after row f)
 unfolding loop_after
@@ -41,10 +41,10 @@ course_legal positions c f z l h =
 
 -- ---- a row's first tick, with no delay, and a position's first row
 pub row_begins : (t : Time) → LegalTime t → LegalTime (time_at t 0 0)
-row_begins t l = record { speed = l.speed; delay = zero≤; tick = omega (arith, l.speed.low); tempo = l.tempo }
+row_begins t l = record { speed = l.speed; delay = zero-le; tick = omega (arith, l.speed.low); tempo = l.tempo }
 
 pub position_begins : (positions position : ℕ) → position < positions → LegalCourse positions (course_from position)
-position_begins positions position h = record { at = record { position = h; row = zero≤ }; next = record { position = h; row = zero≤ }; looping = no_loop_legal }
+position_begins positions position h = record { at = record { position = h; row = zero-le }; next = record { position = h; row = zero-le }; looping = no_loop_legal }
 
 -- ---- after the frames
 pub course_kept : (positions u : ℕ) (c : Course) → LegalCourse positions c → LegalCourse positions (course_to u c)

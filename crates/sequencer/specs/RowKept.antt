@@ -4,7 +4,7 @@
 use Rattle.std.specs.Prelude.{◌≡◌, ℕ, ◌+◌, ◌-◌, ◌%◌, ◌<◌, ◌≤◌, ◌==◌, nat_lt}
 use Rattle.std.proofs.Common.{arith}
 use borrow.Author.Tests.{eqb-false, ltb-true, ltb-false}
-use borrow.Author.Rules.{zero≤}
+use Rattle.std.proofs.Common.{zero-le}
 use Rattle.std.proofs.Math.Dec.{lit≤}
 use Rattle.laws.specs.Choice.{either}
 use Rattle.laws.specs.Numbers.{cond-le}
@@ -47,7 +47,7 @@ fewer n h = omega arith
 
 break_legal : (p : ℕ) → break_row p ≤ last_row
 unfolding break_row
-break_legal p = either (λ (n : ℕ). n ≤ last_row) (nat_lt last_row (tens p)) 0 (tens p) (λ l. zero≤) (λ l. ltb-false last_row (tens p) l)
+break_legal p = either (λ (n : ℕ). n ≤ last_row) (nat_lt last_row (tens p)) 0 (tens p) (λ l. zero-le) (λ l. ltb-false last_row (tens p) l)
 
 jump_legal : (positions p : ℕ) → 0 < positions → jump_position positions p < positions
 unfolding jump_position
@@ -61,7 +61,7 @@ following_legal positions p h = either (λ (k : ℕ). k < positions) (nat_lt (p 
 counted_legal : (l : Looping) (n : ℕ) → LegalLooping l → n ≤ last_delay → LegalLooping (counted l n)
 unfolding counted
 counted_legal l n h k =
-    either LegalLooping (n == 0) _ _ (λ e. record { row = h.row; count = zero≤; target = h.target }) (λ e. record { row = h.row; count = k; target = h.row })
+    either LegalLooping (n == 0) _ _ (λ e. record { row = h.row; count = zero-le; target = h.target }) (λ e. record { row = h.row; count = k; target = h.row })
 
 module _ (c : Cell) where
   speed_legal : (s : ℕ) → Between least_speed greatest_speed s → Between least_speed greatest_speed (row_speed c s)
@@ -120,6 +120,6 @@ flow_from_legal positions c t z e l h =
     record {
       first = e;
       time = h;
-      looping = record { row = l.looping.row; count = l.looping.count; target = zero≤ };
-      moving = record { position = following_legal positions c.at.position z; row = zero≤ };
+      looping = record { row = l.looping.row; count = l.looping.count; target = zero-le };
+      moving = record { position = following_legal positions c.at.position z; row = zero-le };
     }

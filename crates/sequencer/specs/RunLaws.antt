@@ -5,7 +5,7 @@ use Rattle.std.specs.Prelude.{◌≡◌, ℕ, zero, suc, ◌+◌, ◌<◌, ◌�
 use Rattle.std.proofs.Math.Path.{refl, ap}
 use Rattle.std.proofs.Common.{◌∙◌, arith}
 use Rattle.std.proofs.Math.Nat.{zero-add, suc-add}
-use borrow.Author.Rules.{zero≤}
+use Rattle.std.proofs.Common.{zero-le}
 use Rattle.laws.specs.Choice.{either}
 use Rattle.laws.specs.Each.{length-each, get_or-each, get_or-other}
 use Rattle.common.specs.Limits.{width}
@@ -103,7 +103,7 @@ fresh_run m a room =
       sounding =
           record {
             long = length-each {A = ℕ} (λ i. 0) width;
-            low = λ i l. rw (get_or-each {A = ℕ} (λ j. 0) width i 0 (omega arith)) zero≤;
+            low = λ i l. rw (get_or-each {A = ℕ} (λ j. 0) width i 0 (omega arith)) zero-le;
             rest = λ i w l. get_or-each {A = ℕ} (λ j. 0) width i 0 w;
           };
     }

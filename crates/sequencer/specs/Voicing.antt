@@ -1,6 +1,6 @@
 -- What the loop over the channels begins with.
 -- Assumes nothing.
-use Rattle.std.specs.Prelude.{◌≡◌, ℕ, List, length, replicate}
+use Rattle.std.specs.Prelude.{◌≡◌, List, length, replicate}
 use Rattle.common.specs.Limits.{width}
 use Rattle.ticks.specs.Commands.{nothing}
 use Rattle.effects.specs.declared.Channel.{Channel}

@@ -1,6 +1,7 @@
 // The sequencer: the song, what a tick does to it, and what the tick tells the voices. It never sees a voice: the sounding sample
 // numbers are handed to it beside the song.
 #![tactic(auto)]
+
 ghost use Rattle.std.specs.Prelude.{◌≡◌, ℕ, ◌+◌, ◌*◌, ◌^◌, ◌<◌, ◌≤◌, slice_index};
 ghost use Rattle.common.specs.Limits.{width};
 ghost use Rattle.ticks.specs.Commands.{sounding_of};

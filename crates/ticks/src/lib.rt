@@ -1,5 +1,6 @@
 // Ticks: what a tick tells each channel's voice, and the fitting rule by which ticks are played into a buffer.
 #![tactic(auto)]
+
 use common::limits::WIDTH;
 
 // What a channel's voice is told in a tick: sounding sample, volume and sounded period, whether the voice starts, and the start's

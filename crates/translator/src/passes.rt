@@ -63,6 +63,7 @@ fn most_len(channels: usize, ticks: u32) -> usize
 }
 
 // The length that a room of so many bytes is held against. No pass is needed where the room has the most that so many ticks can take.
+#[tactic(auto, using(crate::proofs::Calls::asked_most, crate::proofs::Calls::asked_stream))]
 pub fn asked_len(layout: Layout, file: &[u8], ticks: u32, room: usize) -> usize
     requires layout { LegalLayout layout }
     requires judged { (verdict (lent layout file.now)).number ≡ 0 }

@@ -1,14 +1,14 @@
 -- What the functions on the table rest on: a search along a row, and the cases of a finetune's definitions.
 -- Assumes nothing.
-use Prim.Native.Nat.{ℕ, suc, ◌+◌, ◌*◌, ◌≤◌, ◌<◌, min}
+use Prim.Native.Nat.{ℕ, suc, ◌+◌, ◌*◌, ◌≤◌, ◌<◌}
 use mathlib.Core.Path.{◌≡◌, refl, sym, ◌∙◌, ap}
-use mathlib.Core.Bool.{Bool, true, false}
+use mathlib.Core.Bool.{Bool, false}
 use mathlib.Core.List.{List}
 use mathlib.Core.Logic.{⊎_elim}
 use native.Mathlib.Omega.{arith}
 use native.Mathlib.Nat.{eq-or-lt_of_le}
 use borrow.Author.Tests.{lt-ltb, le-ltb, le-leb, lt-leb, ne_eqb}
-use borrow.Author.Rules.{zero≤}
+use Rattle.std.proofs.Common.{zero-le}
 use lib.Dec.{leb}
 use lib.ListN.{length, get_or, replicate, get_or-eq_default}
 use Rattle.laws.specs.Each.{get_or-each, each_by, get_or-replicate}
@@ -36,7 +36,7 @@ entry_in f i row e l = rw e (get_or-each (entry f) row_length i 0 (omega arith))
 module _ (f : ℕ) where
   pub past_all : (f ≡ 0 → ⊥) → (f ≡ 1 → ⊥) → (f ≡ 2 → ⊥) → (f ≡ 3 → ⊥) → (f ≡ 4 → ⊥) → (f ≡ 5 → ⊥) → (f ≡ 6 → ⊥) → (f ≡ 7 → ⊥) → (f ≡ 8 → ⊥) → (f ≡ 9 → ⊥) → (f ≡ 10 → ⊥) → (f ≡ 11 → ⊥) → (f ≡ 12 → ⊥) → (f ≡ 13 → ⊥) → (f ≡ 14 → ⊥) → (f ≡ 15 → ⊥) → last_finetune < f
   past_all a b c d e g h i j k l m n o p q =
-      next 15 q (next 14 p (next 13 o (next 12 n (next 11 m (next 10 l (next 9 k (next 8 j (next 7 i (next 6 h (next 5 g (next 4 e (next 3 d (next 2 c (next 1 b (next 0 a zero≤)))))))))))))))
+      next 15 q (next 14 p (next 13 o (next 12 n (next 11 m (next 10 l (next 9 k (next 8 j (next 7 i (next 6 h (next 5 g (next 4 e (next 3 d (next 2 c (next 1 b (next 0 a zero-le)))))))))))))))
     where
       next : (x : ℕ) → (f ≡ x → ⊥) → x ≤ f → suc x ≤ f
       next x z l = ⊎_elim (λ (e : x ≡ f). absurd (z (sym e))) (λ (k : x < f). k) (eq-or-lt_of_le l)
@@ -63,7 +63,7 @@ pub record Passed (row : List ℕ) (f p i : ℕ) : Type 0 where
   pub none : some (reached f p) i ≡ false
 
 pub none_passed : (row : List ℕ) (f p : ℕ) → row ≡ row_of f → Passed row f p 0
-none_passed row f p e = record { low = zero≤; same = e; none = some_none (reached f p) }
+none_passed row f p e = record { low = zero-le; same = e; none = some_none (reached f p) }
 
 module _ (row : List ℕ) (f p i : ℕ) (w : Passed row f p i) (l : i < last_note) where
   is : get_or row i 0 ≡ entry f i

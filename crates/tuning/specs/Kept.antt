@@ -1,16 +1,16 @@
 -- A finetune's periods are legal: its notes (`tuned_legal`), what is kept in its row (`kept_legal`), and semitones (`semitones_legal`). What is kept
 -- lies between the row's first and last entries (`kept_high`, `kept_low`).
 -- Assumes nothing.
-use Rattle.std.specs.Prelude.{ℕ, zero, suc, ◌+◌, ◌≤◌, ◌<◌, min, Bool, cond, eqb, leb, ltb}
+use Rattle.std.specs.Prelude.{ℕ, zero, suc, ◌+◌, ◌≤◌, min, Bool, eqb, ltb}
 use Rattle.std.proofs.Math.Nat.{le_refl}
 use Rattle.std.proofs.Common.{arith}
 use borrow.Author.Tests.{ltb-false}
-use borrow.Author.Rules.{zero≤}
+use Rattle.std.proofs.Common.{zero-le}
 use Rattle.laws.specs.Choice.{either}
 use Rattle.laws.specs.Ranges.{some, first}
 use Rattle.laws.specs.Numbers.{cond-le}
 use Rattle.common.specs.LimitFacts.{LegalPeriod}
-use Rattle.common.specs.LimitFacts.LegalPeriod.{silent, sounding}
+use Rattle.common.specs.LimitFacts.LegalPeriod.{sounding}
 use Rattle.tuning.specs.Table.{last_finetune, last_note, entry, greatest_of, least_of}
 use Rattle.tuning.specs.Tuned.{place_of, tuned, kept, semitones}
 use Rattle.tuning.specs.Rules.{entry_legal, row_high, row_low}
@@ -18,7 +18,7 @@ use Rattle.tuning.specs.Rules.{entry_legal, row_high, row_low}
 -- a search finds a place below its bound, or the bound
 first_most : (p : ℕ → Bool) (n : ℕ) → first p n ≤ n
 unfolding first
-first_most p zero = zero≤
+first_most p zero = zero-le
 first_most p (suc n) =
     let before : first p n ≤ suc n = omega (arith, first_most p n) in
     let here : n ≤ suc n = omega arith in
@@ -42,12 +42,12 @@ module _ (f : ℕ) (h : f ≤ last_finetune) where
   semitones_legal p k = entry_period (min (place_of f p + k) last_note) (omega arith)
 
   inside : (n : ℕ) → n ≤ greatest_of f → least_of f ≤ n → LegalPeriod n
-  inside n g l = let high = (entry_legal f 0 h zero≤).high in let low = (entry_legal f last_note h (omega arith)).low in sounding {p = n} (omega arith) (omega arith)
+  inside n g l = let high = (entry_legal f 0 h zero-le).high in let low = (entry_legal f last_note h (omega arith)).low in sounding {p = n} (omega arith) (omega arith)
 
   pub kept_legal : (n : ℕ) → LegalPeriod (kept f n)
   unfolding kept
   kept_legal n =
-      either LegalPeriod (ltb (greatest_of f) n) _ _ (λ e. entry_period 0 zero≤)
+      either LegalPeriod (ltb (greatest_of f) n) _ _ (λ e. entry_period 0 zero-le)
       (λ e. either LegalPeriod (ltb n (least_of f)) _ _ (λ q. entry_period last_note (omega arith)) (λ q. inside n (ltb-false (greatest_of f) n e) (ltb-false n (least_of f) q)))
 
   -- and stays between the row's first and last entries
@@ -60,5 +60,5 @@ module _ (f : ℕ) (h : f ≤ last_finetune) where
   pub kept_low : (n : ℕ) → least_of f ≤ kept f n
   unfolding kept
   kept_low n =
-      either (λ (x : ℕ). least_of f ≤ x) (ltb (greatest_of f) n) _ _ (λ e. row_low f 0 h zero≤)
+      either (λ (x : ℕ). least_of f ≤ x) (ltb (greatest_of f) n) _ _ (λ e. row_low f 0 h zero-le)
       (λ e. either (λ (x : ℕ). least_of f ≤ x) (ltb n (least_of f)) _ _ (λ q. le_refl (least_of f)) (λ q. ltb-false n (least_of f) q))

@@ -1,5 +1,6 @@
 // The periods of the notes, by finetune. A finetune is a header's number: 0 to 15, 8 to 15 meaning -8 to -1.
 #![tactic(auto)]
+
 ghost use Rattle.std.specs.Prelude.{◌≡◌, ◌≤◌};
 ghost use Rattle.tuning.specs.Table.{last_note, entry, row_of};
 ghost use Rattle.tuning.specs.Tuned.{place_of, tuned, kept, semitones};

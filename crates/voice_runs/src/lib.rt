@@ -1,5 +1,6 @@
 // Voices in runs: up to its sample's end a voice is a line through bytes, and its numbers are written byte by byte into cells, or passed by.
 #![tactic(auto)]
+
 ghost use Rattle.std.specs.Prelude.{◌≡◌, [], ◌+◌, ◌*◌, ◌<◌, ◌≤◌, length};
 ghost use Rattle.common.specs.LimitFacts.{LegalPeriod};
 ghost use Rattle.runs.specs.Cells.{Holds};

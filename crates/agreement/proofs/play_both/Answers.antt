@@ -1,0 +1,19 @@
+-- `agreement::play_both` meets its contract. Each call ensures its own definition, and the theorem `sixteen_bits_lem` makes demand 3 of the three.
+-- The stream player's part is in the room, since a translation's count never exceeds the room, refused or not.
+-- Assumes nothing.
+use Rattle.agreement.specs.Parts.{part_inside, part_length}
+use Rattle.agreement.proofs.Laws.{called, agreed}
+use borrow.Author.Rules.{rules}
+use Rattle.agreement.proofs.play_both.Goals as goal
+
+pub slice_bounds-play_stream-end : goal.slice_bounds-play_stream-end
+slice_bounds-play_stream-end c = search (part_inside, rules)
+
+pub slice_bounds-play_stream-end-2 : goal.slice_bounds-play_stream-end-2
+slice_bounds-play_stream-end-2 c = search (part_length, part_inside, rules)
+
+pub returns-clause-calls : goal.returns-clause-calls
+returns-clause-calls c = search (called, rules)
+
+pub returns-clause-agrees : goal.returns-clause-agrees
+returns-clause-agrees c = λ v few l. agreed _ _ _ _ _ _ _ _ _ _ _ _ c.translate-translated.ensures c.fresh.ensures c.play-played.ensures c.play_stream-streamed.ensures (λ i. (c.shared_slice_known-1.given i).fits) v few l

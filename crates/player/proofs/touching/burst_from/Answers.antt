@@ -1,0 +1,22 @@
+-- A law for each answer, over what the tests before it showed.
+use Rattle.player.proofs.Bursts.{burst_many, burst_short, burst_unequal, burst_taken, lists_equal, room_for}
+use Rattle.std.proofs.Common.{rules}
+use Rattle.player.proofs.touching.burst_from.Goals as goal
+
+pub returns-then-most-gt-MOST_TOUCHES : goal.returns-then-most-gt-MOST_TOUCHES
+returns-then-most-gt-MOST_TOUCHES c = search (burst_many, rules)
+
+pub returns-then-answers-most : goal.returns-then-answers-most
+returns-then-answers-most c = search (burst_short, rules)
+
+pub returns-then-unequal : goal.returns-then-unequal
+returns-then-unequal c = search (burst_unequal, rules)
+
+pub take_touches-requires-clause-equal : goal.take_touches-requires-clause-equal
+take_touches-requires-clause-equal c = lists_equal _ _ _ _ c.unequal.ensures c.if-unequal.false
+
+pub take_touches-requires-clause-room : goal.take_touches-requires-clause-room
+take_touches-requires-clause-room c = search (room_for, rules)
+
+pub returns : goal.returns
+returns c = search (burst_taken, rules)

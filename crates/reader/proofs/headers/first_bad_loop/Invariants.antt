@@ -1,0 +1,14 @@
+-- The loop: no header passed has a loop that leaves its sample.
+use Rattle.reader.specs.Judge.{bad_loop}
+use Rattle.reader.specs.File.{lent}
+use mathlib.Core.Bool.{false}
+use mathlib.Core.Path.{◌≡◌}
+use Prim.Native.Nat.{◌-◌, ◌≤◌}
+use Rattle.laws.specs.Ranges.{some}
+use Rattle.reader.proofs.headers.first_bad_loop.Given as goal
+
+abbrev pub invariant-loop-k : goal.invariant-loop-k
+invariant-loop-k l = (l.k ≤ l.layout.samples) × (some (bad_loop (lent l.layout l.file)) l.k ≡ false)
+
+abbrev pub decreases-loop-k : goal.decreases-loop-k
+decreases-loop-k l = l.layout.samples - l.k

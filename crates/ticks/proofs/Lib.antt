@@ -1,0 +1,2 @@
+pub mod PlayParts
+pub mod PlayingOn
