@@ -4,10 +4,10 @@ ghost use Rattle.std.specs.Prelude.{◌<◌, ◌≤◌, ◌≡◌, length};
 ghost use Rattle.common.specs.Limits.{width};
 
 use common::limits::{GREATEST_TEMPO, WIDTH};
-use libc::STDOUT_FILENO;
 use player::State;
 use runs::FRAME_NUMBERS;
 use sequencer::Song;
+use std::io;
 use voice::Voice;
 
 // How many ticks of each file are played.
@@ -27,35 +27,33 @@ fn room() -> [i16; MOST_NUMBERS]
     [0i16; MOST_NUMBERS]
 }
 
-fn tell(n: u32) {
-    io::write_all(STDOUT_FILENO, b" ");
-    io::print_decimal(STDOUT_FILENO, n as u64);
+fn tell(rt: &impl Print, n: u32) -> io::Result<()> {
+    print!(rt; " {n}")
 }
 
-fn tell_place(song: Song) {
-    io::print_decimal(STDOUT_FILENO, song.course.at.position as u64);
-    tell(song.course.at.row);
-    tell(song.time.tick);
+fn tell_place(rt: &impl Print, song: Song) -> io::Result<()> {
+    print!(rt; "{}", song.course.at.position)?;
+    tell(rt, song.course.at.row)?;
+    tell(rt, song.time.tick)
 }
 
-fn tell_voice(v: Voice) {
-    tell(v.sample as u32);
-    tell(v.period as u32);
-    tell(v.volume as u32);
-    tell(v.index);
-    tell(v.fraction as u32);
-    tell(v.stopped as u32);
+fn tell_voice(rt: &impl Print, v: Voice) -> io::Result<()> {
+    tell(rt, u32::from(v.sample))?;
+    tell(rt, u32::from(v.period))?;
+    tell(rt, u32::from(v.volume))?;
+    tell(rt, v.index)?;
+    tell(rt, u32::from(v.fraction))?;
+    tell(rt, u32::from(v.stopped))
 }
 
 // The first n voices.
-fn tell_voices(n: usize, voices: [Voice; WIDTH])
+fn tell_voices(rt: &impl Print, n: usize, voices: [Voice; WIDTH]) -> io::Result<()>
     requires { n ≤ width }
 {
-    let mut i = 0;
-    while i < n {
-        tell_voice(voices[i]);
-        i += 1;
+    for v in &voices[..n] {
+        tell_voice(rt, *v)?;
     }
+    Ok(())
 }
 
 // A number modulo 65,536.
@@ -71,10 +69,8 @@ fn checksum(numbers: &[i16; MOST_NUMBERS], n: usize) -> u32
     requires { n ≤ 7500 }
 {
     let mut h = 0;
-    let mut i = 0;
-    while i < n {
-        h = (h * FACTOR + bits(numbers[i])) % MODULUS;
-        i += 1;
+    for x in &numbers[..n] {
+        h = (h * FACTOR + bits(*x)) % MODULUS;
     }
     h
 }
@@ -98,7 +94,7 @@ fn tick_size(before: u32, remainder: u32, tempo: u32) -> usize
 }
 
 // Plays a tick, tells of it, and returns the state after it.
-fn play_tick(file: &[u8], state: State) -> State {
+fn play_tick(rt: &impl Print, file: &[u8], state: State) -> io::Result<State> {
     let mut out = room();
     let reply = player::play(file, state, 1, &mut out);
     let after = reply.state;
@@ -109,19 +105,17 @@ fn play_tick(file: &[u8], state: State) -> State {
         state.remainder,
         after.song.time.tempo,
     );
-    tell_place(state.song);
-    tell(after.song.time.tempo);
-    tell_voices(layout.channels, voices);
-    tell(checksum(&out, size));
-    io::write_all(STDOUT_FILENO, b"\n");
-    after
+    tell_place(rt, state.song)?;
+    tell(rt, after.song.time.tempo)?;
+    tell_voices(rt, layout.channels, voices)?;
+    println!(rt; " {}", checksum(&out, size))?;
+    Ok(after)
 }
 
-pub fn play_ticks(file: &[u8]) {
+pub fn play_ticks(rt: &impl Print, file: &[u8]) -> io::Result<()> {
     let mut state = player::fresh();
-    let mut i = 0;
-    while i < TICKS {
-        state = play_tick(file, state);
-        i += 1;
+    for _ in 0..TICKS {
+        state = play_tick(rt, file, state)?;
     }
+    Ok(())
 }

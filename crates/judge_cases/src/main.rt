@@ -1,5 +1,8 @@
 // Judges each file that is named as an argument.
 #![tactic(auto)]
-fn main() {
-    case_files::judge_each()
+
+use std::io;
+
+fn main(rt: HostRuntime) -> io::Result<()> {
+    case_files::judge_each(&rt, &rt.stderr())
 }

@@ -1,5 +1,8 @@
 // Plays each file that is named as an argument.
 #![tactic(auto)]
-fn main() {
-    case_files::play_each()
+
+use std::io;
+
+fn main(rt: HostRuntime) -> io::Result<()> {
+    case_files::play_each(&rt, &rt.stderr())
 }
