@@ -105,18 +105,20 @@ install:
 uninstall:
 	@scripts/install --remove
 
-# The folders stand among the sources, so that a file taken away counts as a change. What rt says is shown where it fails.
-out/liblampthistle.a: crates.txt $(shell find crates)
+# The folders stand among the sources, so that a file taken away counts as a change; each crate's out/ is rt's own. What rt says is shown where
+# it fails: rt lib then leaves the archive that it made before. The archive is for every x86-64 processor, as the header says; rt lib by itself
+# makes one for x86-64-v2.
+out/liblampthistle.a: crates.txt $(shell find crates -regex 'crates/[^/]*/out' -prune -o -print)
 	@mkdir -p out
-	@echo 'proving the library: five to ten minutes from nothing (out/proofs.log)'
-	@rt staticlib capi >out/proofs.log 2>&1 || { cat out/proofs.log; exit 1; }
-	cp target/staticlib/libcapi.a $@
+	@echo 'proving the library: some minutes from nothing (out/proofs.log)'
+	@(cd crates/capi && rt lib --cpu=x86-64) >out/proofs.log 2>&1 || { cat out/proofs.log; exit 1; }
+	cp crates/capi/out/libcapi.a $@
 
 out/lampthistle.h: include/lampthistle.h
 	@mkdir -p out
 	cp $< $@
 
 clean:
-	rm -rf out target host/target
+	rm -rf out host/target crates/*/out
 
 .PHONY: all lib judge demo bench bench-players compare test host-test c-test robust install-test install uninstall clean
