@@ -32,7 +32,8 @@ fn functions() -> HashMap<String, Function> {
     functions
 }
 
-/// The bytes by which an instruction makes the frame larger.
+/// The bytes by which an instruction makes the frame larger. A large frame is made in steps, each of which is read; one of many steps would be
+/// made in a loop, whose steps cannot be counted here.
 fn grown(name: &str, line: &str) -> u64 {
     let instruction = line.split('\t').nth(1).unwrap_or_default().trim();
     let (code, operands) = instruction.split_once(' ').unwrap_or((instruction, ""));
@@ -44,6 +45,7 @@ fn grown(name: &str, line: &str) -> u64 {
             let size = size.unwrap_or_else(|| panic!("{name}: a frame that depends on data"));
             u64::from_str_radix(size, 16).unwrap()
         }
+        "cmp" if operands.trim().ends_with(",%rsp") => panic!("{name}: a frame that a loop makes"),
         _ => 0,
     }
 }
