@@ -65,6 +65,8 @@ def table():
         said = OTHERWISE.get(name) or head + "".join((dash if i == 0 else "_") + p for i, p in enumerate(rest))
         if said != name:
             new[name] = said
+    # A parameter, which no line defines.
+    new["voicesOf"] = "voices_of"
     functions = {said for name, said in new.items() if "-" not in name}
     for name, said in new.items():
         if "-" in name and said in functions:
