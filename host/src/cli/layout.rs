@@ -167,7 +167,7 @@ pub fn empty(channels: usize) -> Vec<u8> {
     file
 }
 
-/// The module without its samples' bytes: it plays the same ticks (the sequencer's `same-ticks`), with every voice silent, so that a
+/// The module without its samples' bytes: it plays the same ticks (the sequencer's `same_ticks`), with every voice silent, so that a
 /// tick takes little time.
 pub fn silenced(file: &[u8]) -> Vec<u8> {
     let end = PATTERNS + pattern_bytes(channels(file)) * pattern_count(file);
