@@ -1,6 +1,8 @@
 pub mod Limits
 pub mod Bytes
 pub mod Answers
+pub mod Refusals
+pub mod RefusalLaws
 pub mod LimitFacts
 pub mod ByteLaws
 pub mod AnswerLaws

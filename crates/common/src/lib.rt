@@ -6,6 +6,7 @@ ghost use Rattle.common.specs.Answers.{refused, accepted};
 
 pub mod bytes;
 pub mod limits;
+pub mod refusals;
 
 // What a call answers: a refusal's number and place, with count 0; or 0, 0 and what the call counts.
 #[derive(Clone, Copy)]
