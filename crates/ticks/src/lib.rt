@@ -5,7 +5,7 @@ use common::limits::WIDTH;
 
 // What a channel's voice is told in a tick: sounding sample, volume and sounded period, whether the voice starts, and the start's
 // offset / 256 (0 without a start).
-#[derive(Clone, Copy)]
+#[derive(Clone, Copy, Default, PartialEq)]
 pub struct Command {
     pub sample: u8,
     pub volume: u8,
@@ -15,7 +15,7 @@ pub struct Command {
 }
 
 // A tick: its tempo, and a command for each channel.
-#[derive(Clone, Copy)]
+#[derive(Clone, Copy, Default, PartialEq)]
 pub struct Tick {
     pub tempo: u32,
     pub commands: [Command; WIDTH],
