@@ -1,111 +1,122 @@
 -- What the functions on the table rest on: a search along a row, and the cases of a finetune's definitions.
 -- Assumes nothing.
-use Prim.Native.Nat.{ℕ, suc, ◌+◌, ◌*◌, ◌≤◌, ◌<◌}
+use Prim.Native.Nat.{ℕ, suc, ◌+◌, ◌*◌, ◌≤◌, ◌<◌, min, max}
 use mathlib.Core.Path.{◌≡◌, refl, sym, ◌∙◌, ap}
-use mathlib.Core.Bool.{Bool, false}
-use mathlib.Core.List.{List}
-use mathlib.Core.Logic.{⊎_elim}
+use mathlib.Core.Bool.{Bool, true, false, cond, not}
+use Rattle.std.specs.Prelude.{Option, Some, None, unwrap_or, position}
+use Rattle.std.specs.List.{position_or_len}
+use Rattle.std.proofs.lemmas.List.{length-take-le, get_or-take}
+use Rattle.std.proofs.lemmas.List.Sums.{prefix_len-le-length}
+use mathlib.Core.List.{List, [], ◌∷◌}
 use native.Mathlib.Omega.{arith}
-use native.Mathlib.Nat.{eq-or-lt_of_le}
-use borrow.Author.Tests.{lt-ltb, le-ltb, le-leb, lt-leb, ne_eqb}
-use Rattle.std.proofs.Common.{zero-le}
-use lib.Dec.{leb}
-use lib.ListN.{length, get_or, replicate, get_or-eq_default}
-use Rattle.laws.specs.Each.{get_or-each, each_by, get_or-replicate}
-use Rattle.laws.specs.Ranges.{some}
+use borrow.Author.Tests.{ltb-true, ltb-false, ne_eqb}
+use lib.Dec.{leb, ltb}
+use lib.ListN.{length, get_or, take, get_or-eq_default}
+use Rattle.laws.specs.Choice.{either}
+use Rattle.laws.specs.Each.{get_or-each, length-each, each_by, get_or-replicate}
+use Rattle.laws.specs.Ranges.{each, some, first}
 use Rattle.laws.specs.Search.{some_none, some_not, at_first, at_end}
 use Rattle.tuning.specs.Table.{last_finetune, row_length, last_note, printed, entry, row_of, greatest_of, least_of}
-use Rattle.tuning.specs.Ends.{ends_of}
+use Rattle.tuning.specs.Rules.{row_high}
 use Rattle.tuning.specs.Tuned.{place_of, tuned, kept, semitones}
+use Rattle.tuning.specs.Ends.{ends_of}
 use Rattle.tuning.specs.declared.table.Ends.{Ends}
+use Rattle.tuning.specs.declared.table.TheConstants.{ROWS, NO_ROW}
 
--- ---- a row
--- by the finetune that a match has found
-pub row_by : (f k : ℕ) (xs : List ℕ) → f ≡ k → xs ≡ row_of k → xs ≡ row_of f
-row_by f k xs e q = rw e q
+-- ---- the table
+rows_printed : ROWS ≡ each row_of (suc last_finetune)
+unfolding each row_of entry printed
+rows_printed = refl
 
-pub ends_by : (f k : ℕ) (x : Ends) → f ≡ k → x ≡ ends_of k → x ≡ ends_of f
-ends_by f k x e q = rw e q
+-- a finetune past the last has no row: its numbers read as 0
+no_entry : (f i : ℕ) → last_finetune < f → entry f i ≡ 0
+unfolding entry printed
+no_entry f i h = let past : length printed ≤ row_length * f + i = omega arith in get_or-eq_default printed 0 past
+
+no_row : (f : ℕ) → last_finetune < f → NO_ROW ≡ row_of f
+unfolding row_of
+no_row f h = each_by (entry f) row_length 0 NO_ROW refl (λ i l. get_or-replicate 0 row_length i ∙ sym (no_entry f i h))
+
+pub row_printed : (f : ℕ) → get_or ROWS f NO_ROW ≡ row_of f
+row_printed f = go (ltb last_finetune f) refl
+  where
+    go : (b : Bool) → ltb last_finetune f ≡ b → get_or ROWS f NO_ROW ≡ row_of f
+    go true e = let h = ltb-true last_finetune f e in get_or-eq_default ROWS NO_ROW (omega arith) ∙ no_row f h
+    go false e = let h = ltb-false last_finetune f e in ap (λ (rows : List (List ℕ)). get_or rows f NO_ROW) rows_printed ∙ get_or-each row_of (suc last_finetune) f NO_ROW (omega arith)
 
 -- an entry of the row is the table's
 pub entry_in : (f i : ℕ) (row : List ℕ) → row ≡ row_of f → i ≤ last_note → get_or row i 0 ≡ entry f i
 unfolding row_of
 entry_in f i row e l = rw e (get_or-each (entry f) row_length i 0 (omega arith))
 
--- ---- a finetune past the last has no row: its numbers read as 0
-module _ (f : ℕ) where
-  pub past_all : (f ≡ 0 → ⊥) → (f ≡ 1 → ⊥) → (f ≡ 2 → ⊥) → (f ≡ 3 → ⊥) → (f ≡ 4 → ⊥) → (f ≡ 5 → ⊥) → (f ≡ 6 → ⊥) → (f ≡ 7 → ⊥) → (f ≡ 8 → ⊥) → (f ≡ 9 → ⊥) → (f ≡ 10 → ⊥) → (f ≡ 11 → ⊥) → (f ≡ 12 → ⊥) → (f ≡ 13 → ⊥) → (f ≡ 14 → ⊥) → (f ≡ 15 → ⊥) → last_finetune < f
-  past_all a b c d e g h i j k l m n o p q =
-      next 15 q (next 14 p (next 13 o (next 12 n (next 11 m (next 10 l (next 9 k (next 8 j (next 7 i (next 6 h (next 5 g (next 4 e (next 3 d (next 2 c (next 1 b (next 0 a zero-le)))))))))))))))
-    where
-      next : (x : ℕ) → (f ≡ x → ⊥) → x ≤ f → suc x ≤ f
-      next x z l = ⊎_elim (λ (e : x ≡ f). absurd (z (sym e))) (λ (k : x < f). k) (eq-or-lt_of_le l)
-
-  module _ (h : last_finetune < f) where
-    pub no_entry : (i : ℕ) → 0 ≡ entry f i
-    unfolding entry printed
-    no_entry i = let past : length printed ≤ row_length * f + i = omega arith in sym (get_or-eq_default printed 0 past)
-
-    pub no_ends : record { first = 0; last = 0 } ≡ ends_of f
-    no_ends = rw (← no_entry 0, ← no_entry last_note)
-
-    pub no_row : replicate row_length 0 ≡ row_of f
-    unfolding row_of
-    no_row = each_by (entry f) row_length 0 (replicate row_length 0) refl (λ i l. get_or-replicate 0 row_length i ∙ no_entry i)
-
 -- ---- a search along a row
-abbrev reached : ℕ → ℕ → ℕ → Bool
-reached f p i = leb (entry f i) p
+-- in a list from place i to n, of which nothing before passed
+search_from : (t p : ℕ → Bool) (n i : ℕ) (xs : List ℕ) → i + length xs ≡ n → ((k : ℕ) → k < length xs → t (get_or xs k 0) ≡ p (i + k)) → some p i ≡ false → i + position_or_len t xs ≡ first p n
+search_from t p n i [] e h w = let r = at_end p i n (omega arith) (omega arith) w in omega arith
+search_from t p n i (x ∷ xs) e h w =
+    let here : t x ≡ p i = h 0 (omega arith) ∙ ap p (omega arith) in
+    go (t x) refl here (λ q. search_from t p n (i + 1) xs (omega arith) (λ k l. h (suc k) (omega arith) ∙ ap p (omega arith)) (some_not p i w (sym here ∙ q)))
+  where
+    go : (b : Bool) → t x ≡ b → t x ≡ p i → (t x ≡ false → (i + 1) + position_or_len t xs ≡ first p n) → i + cond (not b) (1 + position_or_len t xs) 0 ≡ first p n
+    go true q here next = let r = at_first p i n (omega arith) w (sym here ∙ q) in omega arith
+    go false q here next = let r = next q in omega arith
 
-pub record Passed (row : List ℕ) (f p i : ℕ) : Type 0 where
-  pub low : i ≤ last_note
-  pub same : row ≡ row_of f
-  pub none : some (reached f p) i ≡ false
-
-pub none_passed : (row : List ℕ) (f p : ℕ) → row ≡ row_of f → Passed row f p 0
-none_passed row f p e = record { low = zero-le; same = e; none = some_none (reached f p) }
-
-module _ (row : List ℕ) (f p i : ℕ) (w : Passed row f p i) (l : i < last_note) where
-  is : get_or row i 0 ≡ entry f i
-  is = entry_in f i row w.same w.low
-
-  pub one_passed : p < get_or row i 0 → Passed row f p (i + 1)
-  one_passed h = record { low = omega arith; same = w.same; none = some_not (reached f p) i w.none (lt-leb (entry f i) p (rw is at h)) }
-
-  pub place_found : get_or row i 0 ≤ p → (i ≡ place_of f p) × (i ≤ last_note)
-  unfolding place_of
-  place_found h = (at_first (reached f p) i last_note l w.none (le-leb (entry f i) p (rw is at h)), w.low)
-
-pub place_last : (row : List ℕ) (f p i : ℕ) → Passed row f p i → last_note ≤ i → (last_note ≡ place_of f p) × (last_note ≤ last_note)
+place_found : (f p : ℕ) (row : List ℕ) → row ≡ row_of f → length (take last_note row) ≡ last_note → position_or_len (λ x. leb x p) (take last_note row) ≡ place_of f p
 unfolding place_of
-place_last row f p i w l = (at_end (reached f p) i last_note l w.low w.none, omega arith)
+place_found f p row e l =
+    let r = search_from (λ x. leb x p) (λ i. leb (entry f i) p) last_note 0 (take last_note row) (omega arith) (λ k h. ap (λ (x : ℕ). leb x p) (get_or-take last_note row k 0 (omega arith) ∙ entry_in f k row e (omega arith) ∙ ap (entry f) (omega arith))) (some_none _) in
+    omega arith
+
+row_long : (f : ℕ) (row : List ℕ) → row ≡ row_of f → length (take last_note row) ≡ last_note
+unfolding row_of
+row_long f row e = let n = ap length e ∙ length-each (entry f) row_length in length-take-le last_note row (omega arith)
+
+-- what was found in the row before its last place, or that place
+found_or : (k n m : ℕ) → k ≤ n → m ≡ n → unwrap_or (cond (ltb k m) (Some k) None) n ≡ k
+found_or k n m l e = either (λ (o : Option ℕ). unwrap_or o n ≡ k) (ltb k m) (Some k) None (λ q. refl) (λ q. omega (arith, ltb-false k m q))
+
+pub place_by : (f p : ℕ) (row : List ℕ) (r : Option ℕ) (n : ℕ) → row ≡ row_of f → r ≡ position (λ x. leb x p) (take last_note row) → n ≡ unwrap_or r last_note → (n ≡ place_of f p) × (n ≤ last_note)
+place_by f p row r n e q u =
+    let l = row_long f row e in
+    let k : ℕ = position_or_len (λ x. leb x p) (take last_note row) in
+    let m : k ≤ last_note = omega (arith, prefix_len-le-length (λ x. not (leb x p)) (take last_note row)) in
+    let s : n ≡ k = u ∙ ap (λ o. unwrap_or o last_note) q ∙ found_or k last_note _ m l in
+    (s ∙ place_found f p row e l, omega arith)
 
 -- ---- a note's period
 pub tuned_by : (f p n r : ℕ) → (f ≡ 0 → ⊥) → n ≡ place_of 0 p → r ≡ entry f n → r ≡ tuned f p
 unfolding tuned
 tuned_by f p n r z e q = rw (ne_eqb f 0 z, ← e) q
 
+pub semitones_by : (f p n m by r : ℕ) → n ≡ place_of f p → m ≡ min (n + by) last_note → r ≡ entry f m → r ≡ semitones f p by
+unfolding semitones
+semitones_by f p n m by r e q s = rw (← e, ← q) s
+
 -- ---- between a row's limits
-module _ (f n g : ℕ) (e : g ≡ greatest_of f) where
-  pub kept_above : g < n → g ≡ kept f n
+ends_in_order : (f : ℕ) → least_of f ≤ greatest_of f
+ends_in_order f = go (ltb last_finetune f) refl
+  where
+    go : (b : Bool) → ltb last_finetune f ≡ b → least_of f ≤ greatest_of f
+    go true e = let h = ltb-true last_finetune f e in omega (arith, no_entry f last_note h)
+    go false e = row_high f last_note (ltb-false last_finetune f e) (omega arith)
+
+pub ends_by : (f : ℕ) (row : List ℕ) → row ≡ row_of f → record { first = get_or row 0 0; last = get_or row last_note 0 } ≡ ends_of f
+ends_by f row e = rw (entry_in f 0 row e (omega arith), entry_in f last_note row e (omega arith))
+
+module _ (f n : ℕ) (e : Ends) (q : e ≡ ends_of f) where
+  first_is : e.first ≡ greatest_of f
+  first_is = ap (λ (x : Ends). x.first) q
+
+  last_is : e.last ≡ least_of f
+  last_is = ap (λ (x : Ends). x.last) q
+
+  pub in_order : e.last ≤ e.first
+  in_order = rw (first_is, last_is) (ends_in_order f)
+
+  pub kept_by : (r : ℕ) → r ≡ max e.last (min n e.first) → r ≡ kept f n
   unfolding kept
-  kept_above h = rw (lt-ltb (greatest_of f) n (rw e at h)) e
-
-  module _ (l : ℕ) (q : l ≡ least_of f) (h : n ≤ g) where
-    pub kept_below : n < l → l ≡ kept f n
-    unfolding kept
-    kept_below k = rw (le-ltb (greatest_of f) n (rw e at h), lt-ltb n (least_of f) (rw q at k)) q
-
-    pub kept_inside : l ≤ n → n ≡ kept f n
-    unfolding kept
-    kept_inside k = rw (le-ltb (greatest_of f) n (rw e at h), le-ltb n (least_of f) (rw q at k))
-
--- ---- so many semitones on, and past the last
-module _ (f p n by : ℕ) (row : List ℕ) (s : row ≡ row_of f) (e : n ≡ place_of f p) where
-  pub semitones_on : n + by < last_note → get_or row (n + by) 0 ≡ semitones f p by
-  unfolding semitones
-  semitones_on l = entry_in f (n + by) row s (omega arith) ∙ ap (entry f) (omega arith)
-
-  pub semitones_last : last_note ≤ n + by → get_or row last_note 0 ≡ semitones f p by
-  unfolding semitones
-  semitones_last l = entry_in f last_note row s (omega arith) ∙ ap (entry f) (omega arith)
+  kept_by r s =
+      s ∙ rw (first_is, last_is)
+      (either (λ x. max (least_of f) (min n (greatest_of f)) ≡ x) (ltb (greatest_of f) n) _ _
+      (λ t. omega (arith, ltb-true (greatest_of f) n t, ends_in_order f))
+      (λ t. either (λ x. max (least_of f) (min n (greatest_of f)) ≡ x) (ltb n (least_of f)) _ _ (λ u. omega (arith, ltb-false (greatest_of f) n t, ltb-true n (least_of f) u)) (λ u. omega (arith, ltb-false (greatest_of f) n t, ltb-false n (least_of f) u))))

@@ -2,11 +2,10 @@
 #![tactic(auto)]
 
 ghost use Rattle.std.specs.Prelude.{◌≡◌, ◌≤◌};
-ghost use Rattle.tuning.specs.Table.{last_note, entry, row_of};
+ghost use Rattle.tuning.specs.Table.{last_note, entry, greatest_of};
 ghost use Rattle.tuning.specs.Tuned.{place_of, tuned, kept, semitones};
 
-pub use crate::table::greatest_of;
-use crate::table::{LAST_NOTE, ROW_0, ROW_LENGTH, least_of, row_of};
+use crate::table::{LAST_NOTE, ends_of, row_of};
 
 mod table;
 
@@ -14,73 +13,57 @@ mod table;
 pub const LAST_FINETUNE: u32 = 15;
 
 // The entry of a row at a place.
+#[tactic(auto, using(crate::proofs::Places::entry_in))]
 fn entry(finetune: u32, note: usize) -> u32
     requires { note ≤ last_note }
     ensures { result ≡ entry finetune note }
 {
-    let row = row_of(finetune);
-    row[note]
+    row_of(finetune)[note]
 }
 
 // Where a finetune's row is first at or below a period, or its last place.
-fn place_of(finetune: u32, row: [u32; ROW_LENGTH], period: u32) -> usize
-    requires { row ≡ row_of finetune }
+fn place_of(finetune: u32, period: u32) -> usize
     ensures { (result ≡ place_of finetune period) × (result ≤ last_note) }
 {
-    let mut note = 0;
-    while note < LAST_NOTE {
-        if row[note] <= period {
-            return note;
-        }
-        note += 1;
-    }
-    LAST_NOTE
+    let row = row_of(finetune);
+    row[..LAST_NOTE]
+        .iter()
+        .position(|entry| *entry <= period)
+        .unwrap_or(LAST_NOTE)
 }
 
 // The period of a note that a cell's period asks for.
+#[tactic(auto, using(crate::proofs::Places::tuned_by), unfolding(crate::specs::Tuned::tuned))]
 pub fn tuned(finetune: u32, period: u32) -> u32
     ensures { result ≡ tuned finetune period }
 {
     if finetune == 0 {
         return period;
     }
-    entry(finetune, place_of(0, row_of(0), period))
+    entry(finetune, place_of(0, period))
+}
+
+// The greatest period of a finetune's row.
+pub fn greatest_of(finetune: u32) -> u32
+    ensures { result ≡ greatest_of finetune }
+{
+    ends_of(finetune).first
 }
 
 // A slide's result, kept in the row.
+#[tactic(auto, using(crate::proofs::Places::in_order, crate::proofs::Places::kept_by))]
 pub fn kept(finetune: u32, n: u32) -> u32
     ensures { result ≡ kept finetune n }
 {
-    let greatest = greatest_of(finetune);
-    if greatest < n {
-        return greatest;
-    }
-    let least = least_of(finetune);
-    if n < least {
-        return least;
-    }
-    n
+    let ends = ends_of(finetune);
+    n.clamp(ends.last, ends.first)
 }
 
 // A period so many semitones up in its finetune's row.
-fn semitones_in(finetune: u32, row: [u32; ROW_LENGTH], period: u32, by: u32) -> u32
-    requires { row ≡ row_of finetune }
-    ensures { result ≡ semitones finetune period by }
-{
-    let note = place_of(finetune, row, period) + by as usize;
-    if note < LAST_NOTE {
-        row[note]
-    } else {
-        row[LAST_NOTE]
-    }
-}
-
-// A period so many semitones up. Most samples have finetune 0, whose row is quicker to come by than one that is chosen.
+#[tactic(auto, using(crate::proofs::Places::semitones_by))]
 pub fn semitones(finetune: u32, period: u32, by: u32) -> u32
     ensures { result ≡ semitones finetune period by }
 {
-    if finetune == 0 {
-        return semitones_in(finetune, ROW_0, period, by);
-    }
-    semitones_in(finetune, row_of(finetune), period, by)
+    let note = place_of(finetune, period) + by as usize;
+    entry(finetune, note.min(LAST_NOTE))
 }

@@ -1,16 +1,11 @@
--- The loop: every entry passed is above the period.
-use Rattle.tuning.proofs.Places.{none_passed, one_passed, place_found, place_last}
-use borrow.Author.Rules.{rules}
+-- The search along the row.
+use Rattle.std.proofs.Common.{rules, tests, leb}
+use Rattle.std.proofs.lemmas.Iterator.{YieldsList-from_slice}
+use Rattle.std.proofs.lemmas.Iterator.Search.{position_from_yields_List}
+use Rattle.tuning.proofs.Places.{place_by}
 use Rattle.tuning.proofs.place_of.Goals as goal
 
-pub loop-note-init : goal.loop-note-init
-loop-note-init c = search (none_passed, rules)
-
-pub returns-then-row-note : goal.returns-then-row-note
-returns-then-row-note c = place_found _ _ _ _ c.loop-note.invariant c.loop-note-test.true c.if-row-note.true
-
-pub loop-note-preserved : goal.loop-note-preserved
-loop-note-preserved c = search (one_passed, rules)
-
 pub returns : goal.returns
-returns c = place_last _ _ _ _ c.loop-note.invariant c.loop-note-test.false
+returns c =
+    place_by _ _ _ c.position.result _ c.row_of-row.ensures
+    (position_from_yields_List (λ x. leb x c.args.period) _ _ _ c.position.ensures.ran (YieldsList-from_slice _ c.iter.ensures.rest) (λ x b q k. search (rules, tests))) c.unwrap_or.ensures

@@ -1,74 +1,8 @@
--- Each row of the code is that of the definition; a finetune past the last has none.
-use Rattle.laws.specs.Ranges.{each}
-use Rattle.tuning.specs.Table.{printed, entry, row_of}
-use borrow.Author.Rules.{rules}
-use Rattle.tuning.proofs.Places.{row_by, past_all, no_row}
+-- A row of the code is that of the definition; a finetune past the last has none.
+use Rattle.std.proofs.Common.{rules, ◌≡◌, ◌∙◌, get_or}
+use Rattle.tuning.specs.declared.table.TheConstants.{ROWS, NO_ROW}
+use Rattle.tuning.proofs.Places.{row_printed}
 use Rattle.tuning.proofs.table.row_of.Goals as goal
 
-pub returns-in-0 : goal.returns-in-0
-unfolding row_of each entry printed
-returns-in-0 c = search (row_by, rules)
-
-pub returns-in-1 : goal.returns-in-1
-unfolding row_of each entry printed
-returns-in-1 c = search (row_by, rules)
-
-pub returns-in-2 : goal.returns-in-2
-unfolding row_of each entry printed
-returns-in-2 c = search (row_by, rules)
-
-pub returns-in-3 : goal.returns-in-3
-unfolding row_of each entry printed
-returns-in-3 c = search (row_by, rules)
-
-pub returns-in-4 : goal.returns-in-4
-unfolding row_of each entry printed
-returns-in-4 c = search (row_by, rules)
-
-pub returns-in-5 : goal.returns-in-5
-unfolding row_of each entry printed
-returns-in-5 c = search (row_by, rules)
-
-pub returns-in-6 : goal.returns-in-6
-unfolding row_of each entry printed
-returns-in-6 c = search (row_by, rules)
-
-pub returns-in-7 : goal.returns-in-7
-unfolding row_of each entry printed
-returns-in-7 c = search (row_by, rules)
-
-pub returns-in-8 : goal.returns-in-8
-unfolding row_of each entry printed
-returns-in-8 c = search (row_by, rules)
-
-pub returns-in-9 : goal.returns-in-9
-unfolding row_of each entry printed
-returns-in-9 c = search (row_by, rules)
-
-pub returns-in-10 : goal.returns-in-10
-unfolding row_of each entry printed
-returns-in-10 c = search (row_by, rules)
-
-pub returns-in-11 : goal.returns-in-11
-unfolding row_of each entry printed
-returns-in-11 c = search (row_by, rules)
-
-pub returns-in-12 : goal.returns-in-12
-unfolding row_of each entry printed
-returns-in-12 c = search (row_by, rules)
-
-pub returns-in-13 : goal.returns-in-13
-unfolding row_of each entry printed
-returns-in-13 c = search (row_by, rules)
-
-pub returns-in-14 : goal.returns-in-14
-unfolding row_of each entry printed
-returns-in-14 c = search (row_by, rules)
-
-pub returns-in-15 : goal.returns-in-15
-unfolding row_of each entry printed
-returns-in-15 c = search (row_by, rules)
-
-pub returns-in_default : goal.returns-in_default
-unfolding row_of each entry printed
-returns-in_default c = search (no_row, past_all, rules)
+pub returns : goal.returns
+returns c = let h : c.unwrap_or.result.now ≡ get_or ROWS c.args.finetune NO_ROW = search rules in h ∙ row_printed c.args.finetune
