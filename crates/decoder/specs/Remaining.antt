@@ -7,7 +7,7 @@ use native.Mathlib.Omega.{arith}
 use Rattle.laws.specs.Choice.{either}
 use Rattle.common.specs.declared.Answer.{Answer}
 use Rattle.common.specs.Bytes.{four_at}
-use Rattle.common.specs.Answers.{refusing}
+use Rattle.common.specs.Answers.{accepted, refusing}
 use Rattle.ticks.specs.declared.Command.{Command}
 use Rattle.ticks.specs.declared.Tick.{Tick}
 use Rattle.ticks.specs.Legal.{LegalTick, LegalTicks, more}
@@ -17,6 +17,7 @@ use Rattle.records.specs.Decoded.{stream_of_lem}
 use Rattle.decoder.specs.declared.Record.{Record}
 use Rattle.decoder.specs.Answers.{unread, as_record, answer_of}
 use Rattle.ticks.specs.Commands.{sounding_of}
+use Rattle.decoder.specs.Whole.{has_ticks, Whole}
 
 -- ---- a record that was read
 module _ (registers : List Command) (at : ℕ) (x : Read Tick) (r : Record) (e : r ≡ as_record registers at x) where
@@ -92,6 +93,19 @@ checked_good last c s a e z = go (decode last c s) refl (decode_numbered last c 
     go : (d : Decoded) → decode last c s ≡ d → Numbered d → a ≡ answer_of d → Good last c s
     go (refusal k p) q h y = absurd (omega (arith, ap (λ (b : Answer). b.number) y))
     go (ticks ts) q h y = record { its = ts; is = q }
+
+-- it is whole
+pub whole_by : (last c : ℕ) (s : List ℕ) → accepted 0 ≡ answer_of (decode last c s) → Whole last c s
+unfolding has_ticks
+whole_by last c s e = let g = checked_good last c s (accepted 0) e refl in rw g.is
+
+pub whole_good : (last c : ℕ) (s : List ℕ) → Whole last c s → Good last c s
+unfolding has_ticks
+whole_good last c s h = go (decode last c s) refl h
+  where
+    go : (d : Decoded) → decode last c s ≡ d → has_ticks d ≡ true → Good last c s
+    go (refusal number place) e t = absurd (true≢false (sym t))
+    go (ticks ts) e t = record { its = ts; is = e }
 
 -- ---- what is left of it
 -- n records from a place on, after the registers: their ticks are ts

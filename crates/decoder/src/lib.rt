@@ -17,6 +17,8 @@ use records::{
 use ticks::{Command, Tick};
 
 mod channels;
+pub mod reading;
+pub mod stream;
 
 // A channel's command that was read, and the place after it; where it is bad or runs out (`short`) the register and the place before it.
 #[derive(Clone, Copy)]

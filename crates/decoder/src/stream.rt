@@ -1,0 +1,148 @@
+// A stream: its header's numbers, and the judgement of its bytes (refusals 21, 22, 28 and 23).
+ghost use Rattle.std.specs.Prelude.{◌≡◌, ◌^◌, ◌≤◌, ◌<◌, length, IfOk};
+ghost use Rattle.common.specs.Refusals.{judged};
+ghost use Rattle.records.specs.Format.{records_place, version_of, known_version, keeps, shift, stream_channels, tick_count, first_record, at_first, decode_records, decode};
+ghost use Rattle.decoder.specs.Answers.{answer_of};
+ghost use Rattle.decoder.specs.Whole.{verdict_of, Whole};
+
+use crate::reading::Scope;
+use common::bytes::four;
+use common::refusals::{Refusal, Rule};
+use records::{
+    CHANNELS_PLACE, COUNT_PLACE, COUNTED_VERSION, FIRST_VERSION, LEAST_PLACE, OLD_CHANNELS,
+    VERSION, VERSION_PLACE,
+};
+
+// A stream's bytes, whose header is in.
+#[derive(Clone, Copy)]
+pub struct Header<'a> {
+    pub bytes: &'a [u8],
+    ghost in_full: { first_record bytes.now ≤ length bytes.now },
+}
+
+// The bytes of a whole stream for a scope.
+#[derive(Clone, Copy)]
+pub struct Stream<'a> {
+    pub scope: Scope,
+    pub header: Header<'a>,
+    ghost whole: { Whole scope.last scope.channels header.bytes.now },
+}
+
+// By how many bytes a version's channel count moves what comes after it.
+#[tactic(auto, unfolding(records::specs::Format::shift))]
+fn shift(version: u8) -> usize
+    ensures { (result ≡ shift version) × (result ≤ 1) }
+{
+    usize::from(version >= COUNTED_VERSION)
+}
+
+#[tactic(auto, unfolding(records::specs::Format::known_version))]
+fn is_known(version: u8) -> bool
+    ensures { result ≡ known_version version }
+{
+    FIRST_VERSION <= version && version <= VERSION
+}
+
+impl<'a> Header<'a> {
+    // The header of bytes that have room for one of any version.
+    #[tactic(auto, unfolding(records::specs::Format::shift))]
+    pub fn of(bytes: &'a [u8]) -> Header<'a>
+        requires { records_place ≤ length bytes.now }
+        ensures { result.bytes.now ≡ bytes.now }
+    {
+        Header { bytes }
+    }
+
+    pub fn version(&self) -> u8
+        ensures { result ≡ version_of self.now.bytes.now }
+    {
+        self.bytes[VERSION_PLACE]
+    }
+
+    // By how many bytes its channel count moves what comes after it.
+    pub fn shift(&self) -> usize
+        ensures { (result ≡ shift (version_of self.now.bytes.now)) × (result ≤ 1) }
+    {
+        shift(self.version())
+    }
+
+    // The place of the first record.
+    pub fn first_record(&self) -> usize
+        ensures { (result ≡ first_record self.now.bytes.now) × (result ≤ records_place) }
+    {
+        LEAST_PLACE + self.shift()
+    }
+
+    // How many ticks the stream says that it has.
+    pub fn count(&self) -> usize
+        ensures { (result ≡ tick_count self.now.bytes.now) × (result < 2 ^ 32) }
+    {
+        four(self.bytes, COUNT_PLACE + self.shift())
+    }
+
+    // How many channels the stream is for.
+    #[tactic(auto, unfolding(records::specs::Format::stream_channels))]
+    pub fn channels(&self) -> usize
+        ensures { result ≡ stream_channels self.now.bytes.now }
+    {
+        if self.version() < COUNTED_VERSION {
+            OLD_CHANNELS
+        } else {
+            usize::from(self.bytes[CHANNELS_PLACE])
+        }
+    }
+
+    // Whether the stream's ticks keep a remainder.
+    #[tactic(auto, unfolding(records::specs::Format::keeps))]
+    pub fn keeps(&self) -> bool
+        ensures { result ≡ keeps self.now.bytes.now }
+    {
+        self.version() != FIRST_VERSION
+    }
+
+    // Refusal 23. It ends at the first bad record, and a good one has at least two bytes, whatever the count is.
+    #[tactic(auto, using(crate::proofs::Records::checked_none, crate::proofs::Records::checked_more, crate::proofs::Records::checked_bad, crate::proofs::Records::checked_over, crate::proofs::Records::checked_all))]
+    fn check_records(&self, scope: Scope) -> Result<(), Refusal>
+        ensures { judged result ≡ answer_of (decode_records scope.last scope.channels self.now.bytes.now (tick_count self.now.bytes.now) (first_record self.now.bytes.now) at_first) }
+    {
+        let mut registers = records::at_first();
+        let mut at = self.first_record();
+        for _ in 0..self.count() {
+            let Ok(record) = scope.read_record(self.bytes, at, &registers) else {
+                return Err(Rule::StreamRecord.at(at));
+            };
+            registers = record.tick.commands;
+            at = record.next;
+        }
+        if at != self.bytes.len() {
+            return Err(Rule::StreamRecord.at(at));
+        }
+        Ok(())
+    }
+}
+
+impl<'a> Stream<'a> {
+    // The stream that the bytes are for a scope, or the first refusal of 21, 22, 28 and 23, with its place. All records are judged.
+    #[tactic(auto, unfolding(records::specs::Format::decode_after, common::specs::Answers::refusing, crate::specs::Answers::answer_of))]
+    pub fn read(scope: Scope, bytes: &'a [u8]) -> Result<Stream<'a>, Refusal>
+        ensures verdict { verdict_of result ≡ answer_of (decode scope.last scope.channels bytes.now) }
+        ensures its { IfOk result (λ s. (s.scope ≡ scope) × (s.header.bytes.now ≡ bytes.now)) }
+    {
+        if bytes.len() < LEAST_PLACE || bytes.len() != VERSION_PLACE + four(bytes, 0) {
+            return Err(Rule::StreamLength.at(bytes.len()));
+        }
+        let version = bytes[VERSION_PLACE];
+        if !is_known(version) {
+            return Err(Rule::StreamVersion.at(VERSION_PLACE));
+        }
+        if bytes.len() < LEAST_PLACE + shift(version) {
+            return Err(Rule::StreamChannels.at(VERSION_PLACE));
+        }
+        let header = Header { bytes };
+        if header.channels() != scope.channels {
+            return Err(Rule::StreamChannels.at(VERSION_PLACE));
+        }
+        header.check_records(scope)?;
+        Ok(Stream { scope, header })
+    }
+}
