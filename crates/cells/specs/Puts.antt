@@ -1,40 +1,14 @@
--- Loops that write cells: a run of them from a place on (`Putting`), and part after part behind a front (`Written`). Laws over plain variables.
+-- Loops that write cells part after part behind a front (`Written`). Laws over plain variables.
 -- Assumes nothing.
 use Prim.Native.Nat.{ℕ, suc, ◌+◌, ◌*◌, ◌≤◌, ◌<◌}
-use Rattle.std.specs.Prelude.{◌≡◌, refl, List, ◌++◌, get_or, set, take, drop}
-use Rattle.std.proofs.Common.{sym, ◌∙◌, append-nil, append_assoc, add-zero, mul-zero, add-one, arith, length-append, length-set, drop_of_length-le, drop-cons, take_all, take_at, length-take-le}
+use Rattle.std.specs.Prelude.{◌≡◌, List, ◌++◌, take, drop}
+use Rattle.std.proofs.Common.{sym, ◌∙◌, append-nil, append_assoc, add-zero, mul-zero, add-one, arith, length-append, take_all, take_at, length-take-le}
 use Rattle.std.proofs.Math.Path.{ap}
 use Rattle.std.proofs.Math.Nat.{mul-suc, mul-le-mul_left}
 use Rattle.std.proofs.Math.ListN.{length}
 use Rattle.std.proofs.lemmas.List.Edits.{sets, sets-eq}
 use Rattle.std.proofs.Math.Seq.{length-sets}
 use Rattle.cells.specs.Cells.{joined}
-
--- ---- a run
--- what is written, with what is left of the run, is the whole
-pub record Putting (run : List ℕ) (at : ℕ) (cells₀ cells : List ℕ) (i : ℕ) : Type 0 where
-  pub long : length cells ≡ length cells₀
-  pub room : at + length run ≤ length cells₀
-  pub whole : sets cells (at + i) (drop i run) ≡ sets cells₀ at run
-
-module _ (run : List ℕ) (at : ℕ) (cells₀ : List ℕ) where
-  pub put_begin : at + length run ≤ length cells₀ → Putting run at cells₀ cells₀ 0
-  put_begin h = record { long = refl; room = h; whole = rw add-zero }
-
-  module _ (cells : List ℕ) (i : ℕ) (w : Putting run at cells₀ cells i) where
-    pub put_more : i < length run → Putting run at cells₀ (set cells (at + i) (get_or run i 0)) (i + 1)
-    put_more h =
-        let e : at + suc i ≡ suc (at + i) = omega arith in
-        record {
-          long = length-set cells (at + i) (get_or run i 0) ∙ w.long;
-          room = w.room;
-          whole = rw (add-one i, e) (rw (drop-cons run i 0 h) at w.whole);
-        }
-
-    pub put_end : length run ≤ i → cells ≡ sets cells₀ at run
-    put_end h = rw (drop_of_length-le run {i = i} h) at w.whole
-
-pub ruleset puts = (put_begin, put_more, put_end)
 
 -- ---- part after part
 -- the cells before the end of a run that was written

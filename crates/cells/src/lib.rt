@@ -51,11 +51,7 @@ pub fn put(run: &[u32], at: usize, cells: &mut [u32])
     requires { at + length run.now ≤ length cells.old }
     ensures { cells.new ≡ sets cells.old at run.now }
 {
-    let mut i = 0;
-    while i < run.len() {
-        cells[at + i] = run[i];
-        i += 1;
-    }
+    cells[at..at + run.len()].copy_from_slice(run);
 }
 
 fn put_song(song: Song, remainder: u32, cells: &mut [u32; CELLS])
@@ -83,7 +79,7 @@ fn put_song(song: Song, remainder: u32, cells: &mut [u32; CELLS])
 fn finetune_cell(finetune: u8) -> u32
     ensures { result ≡ finetune_cell finetune }
 {
-    let cell = finetune as u32;
+    let cell = u32::from(finetune);
     if cell < LEAST_BELOW {
         return cell;
     }
@@ -98,12 +94,12 @@ fn put_plain(channel: Channel, at: usize, cells: &mut [u32; CELLS])
     ensures { cells.new ≡ sets cells.old at (plain_cells channel) }
 {
     let run = [
-        channel.latched as u32,
+        u32::from(channel.latched),
         finetune_cell(channel.finetune),
-        channel.volume as u32,
-        channel.period as u32,
-        channel.target as u32,
-        channel.memory as u32,
+        u32::from(channel.volume),
+        u32::from(channel.period),
+        u32::from(channel.target),
+        u32::from(channel.memory),
     ];
     put(&run, at, cells);
 }
@@ -113,10 +109,10 @@ fn put_wave(wave: Wave, at: usize, cells: &mut [u32; CELLS])
     ensures { cells.new ≡ sets cells.old at (wave_cells wave) }
 {
     let run = [
-        wave.x as u32,
-        wave.y as u32,
-        wave.place as u32,
-        wave.form as u32,
+        u32::from(wave.x),
+        u32::from(wave.y),
+        u32::from(wave.place),
+        u32::from(wave.form),
     ];
     put(&run, at, cells);
 }
@@ -136,12 +132,12 @@ pub fn put_voice(voice: Voice, at: usize, cells: &mut [u32])
     ensures { cells.new ≡ sets cells.old at (voice_cells voice) }
 {
     let run = [
-        voice.sample as u32,
-        voice.period as u32,
-        voice.volume as u32,
+        u32::from(voice.sample),
+        u32::from(voice.period),
+        u32::from(voice.volume),
         voice.index,
-        voice.fraction as u32,
-        voice.stopped as u32,
+        u32::from(voice.fraction),
+        u32::from(voice.stopped),
     ];
     put(&run, at, cells);
 }
@@ -154,7 +150,7 @@ fn put_channel(channel: Channel, voice: Voice, at: usize, cells: &mut [u32; CELL
     put_voice(voice, at + OWN_CELLS, cells);
 }
 
-// The cells of a state.
+// The cells of a state. (No `From`: neither an array nor a state is a type of this crate.)
 pub fn cells_of(state: State) -> [u32; CELLS]
     ensures { result ≡ state_cells state }
 {
@@ -175,25 +171,19 @@ pub fn cells_of(state: State) -> [u32; CELLS]
 }
 
 // A number that is kept as a byte: a larger cell gives 255, which no legal sample, volume or wave has.
+#[tactic(auto, unfolding(crate::specs::Cells::byte_number))]
 fn byte_number(cell: u32) -> u8
     ensures { result ≡ byte_number cell }
 {
-    if cell < LAST_BYTE {
-        cell as u8
-    } else {
-        LAST_BYTE as u8
-    }
+    u8::try_from(cell).unwrap_or(u8::MAX)
 }
 
 // A number that is kept in two bytes: a larger cell gives 65,535, which no legal period is.
+#[tactic(auto, unfolding(crate::specs::Cells::word_number))]
 fn word_number(cell: u32) -> u16
     ensures { result ≡ word_number cell }
 {
-    if cell < LAST_WORD {
-        cell as u16
-    } else {
-        LAST_WORD as u16
-    }
+    u16::try_from(cell).unwrap_or(u16::MAX)
 }
 
 // A sample's cell, unless a number beside it cannot be kept.

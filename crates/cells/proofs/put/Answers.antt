@@ -1,13 +1,8 @@
--- The loop: what is written, with what is left of the run, is the whole.
-use Rattle.cells.specs.Puts.{puts}
-use borrow.Author.Rules.{rules}
+-- A run over a part of the cells is a run of stores.
+use Rattle.std.proofs.lemmas.List.Edits.{sets-eq}
+use Rattle.std.proofs.lemmas.Grind.{common_steps}
+use Rattle.std.proofs.Common.{arith}
 use Rattle.cells.proofs.put.Goals as goal
 
-pub loop-i-init : goal.loop-i-init
-loop-i-init c = search (puts, rules)
-
-pub loop-i-preserved : goal.loop-i-preserved
-loop-i-preserved c = search (puts, rules)
-
 pub returns : goal.returns
-returns c = search (puts, rules)
+returns c = grind (arith, sets-eq, common_steps)
