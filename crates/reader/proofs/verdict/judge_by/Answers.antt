@@ -1,7 +1,7 @@
 -- A law for each refusal, over what the calls before it returned.
 use Rattle.reader.proofs.Table.{refused_1, refused_2, refused_3, refused_4, refused_5, refused_6, refused_rest}
 use borrow.Author.Rules.{rules}
-use Rattle.reader.proofs.judge_by.Goals as goal
+use Rattle.reader.proofs.verdict.judge_by.Goals as goal
 
 pub returns-then-file-layout : goal.returns-then-file-layout
 returns-then-file-layout c = search (refused_1, rules)

@@ -1,6 +1,6 @@
 -- The layout is the one that the tag names.
 use Rattle.reader.specs.Judge.{judge_of}
-use Rattle.reader.proofs.judge.Goals as goal
+use Rattle.reader.proofs.verdict.judge.Goals as goal
 
 pub returns : goal.returns
 unfolding judge_of

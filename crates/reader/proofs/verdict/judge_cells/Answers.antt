@@ -1,7 +1,7 @@
 -- The first bad cell was looked for: a law for each answer.
 use Rattle.reader.proofs.Table.{refused_8, refused_9, refused_none}
 use borrow.Author.Rules.{rules}
-use Rattle.reader.proofs.judge_cells.Goals as goal
+use Rattle.reader.proofs.verdict.judge_cells.Goals as goal
 
 pub returns-then-is_bad_number : goal.returns-then-is_bad_number
 returns-then-is_bad_number c = search (refused_8, rules)

@@ -1,0 +1,34 @@
+-- A module that was read, as the definitions' module; and the line of a call that reads one.
+-- Assumes nothing.
+use Rattle.std.specs.Prelude.{ℕ, ◌≡◌, List, ◌∷◌}
+use Rattle.std.proofs.Common.{sym, ap, ◌∙◌}
+use Rattle.common.specs.declared.Answer.{Answer}
+use Rattle.common.specs.declared.refusals.Refusal.{Refusal}
+use Rattle.common.specs.Answers.{Line, refusing}
+use Rattle.common.specs.Refusals.{number_of, refusal}
+use Rattle.common.specs.RefusalLaws.{refused_by_a_rule}
+use Rattle.reader.specs.File.{Module, lent, module_of}
+use Rattle.reader.specs.Judge.{verdict, judge_of, module_line}
+use Rattle.reader.specs.Accept.{module_given, module_passed}
+use Rattle.reader.specs.declared.module.Module.{Module as ReadModule}
+
+-- the file by its layout
+abbrev pub as_module : ReadModule → Module
+as_module m = lent m.layout m.file.now
+
+-- which is the file's own
+pub module_read : (m : ReadModule) (bytes : List ℕ) → m.file.now ≡ bytes → as_module m ≡ module_of bytes
+module_read m bytes e = rw (m.tagged, e)
+
+-- ---- the line of a call that is lent a module
+module _ {A : Type 0} (refuse : ℕ → ℕ → A) (work : A) (bytes : List ℕ) (more : List Line) (x : A) where
+  -- a file that was not read gives it
+  pub read_refused : (e : Refusal) → judge_of bytes ≡ refusal e → x ≡ refuse (number_of e.rule) e.place → x ≡ refusing refuse work (module_line (module_of bytes) ∷ more)
+  unfolding judge_of
+  read_refused e j q =
+      module_given refuse work (module_of bytes) more x (λ z. refused_by_a_rule e.rule (ap (λ (a : Answer). a.number) (sym j) ∙ z))
+      (rw j q)
+
+  -- one that was leaves the lines that follow
+  pub read_passed : (m : ReadModule) → m.file.now ≡ bytes → x ≡ refusing refuse work more → x ≡ refusing refuse work (module_line (module_of bytes) ∷ more)
+  read_passed m e q = module_passed refuse work (module_of bytes) more x (rw (← module_read m bytes e) m.judged) q

@@ -1,0 +1,49 @@
+// A module: a file that was judged, beside its layout, its song length and the extents of its samples.
+ghost use Rattle.std.specs.Prelude.{◌≡◌};
+ghost use Rattle.common.specs.ByteLaws.{Bytes};
+ghost use Rattle.reader.specs.File.{lent, layout_of, song_length};
+ghost use Rattle.reader.specs.Judge.{verdict};
+ghost use Rattle.reader.specs.Layouts.{LegalLayout};
+ghost use Rattle.reader.specs.Samples.{extents_of};
+
+use crate::{Extent, Layout};
+use common::limits::SAMPLE_NUMBERS;
+use common::refusals::Refusal;
+
+// An accepted file. Its layout is the one that its tag names, and `positions` is its song length.
+#[derive(Drop)]
+pub struct Module<'a> {
+    pub file: &'a [u8],
+    pub layout: Layout,
+    pub positions: u32,
+    pub extents: [Extent; SAMPLE_NUMBERS],
+    pub ghost tagged: { layout ≡ layout_of file.now },
+    pub ghost legal: { LegalLayout layout },
+    pub ghost judged: { (verdict (lent layout file.now)).number ≡ 0 },
+    pub ghost bytes: { Bytes file.now },
+    pub ghost long: { positions ≡ song_length (lent layout file.now) },
+    pub ghost table: { extents ≡ extents_of (lent layout file.now) },
+}
+
+impl<'a> Module<'a> {
+    ghost use Rattle.std.specs.Prelude.{IfOk};
+    ghost use Rattle.std.specs.Result.{IfErr};
+    ghost use Rattle.common.specs.Refusals.{refusal};
+    ghost use Rattle.reader.specs.Judge.{judge_of};
+
+    // The file as a module, or the first refusal of the table, with its place.
+    #[tactic(auto, unfolding(crate::specs::Judge::judge_of))]
+    pub fn read(file: &'a [u8]) -> Result<Module<'a>, Refusal>
+        ensures accepted { IfOk result (λ m. m.file.now ≡ file.now) }
+        ensures refused { IfErr result (λ e. judge_of file.now ≡ refusal e) }
+    {
+        let layout = crate::offsets::layout_of(file);
+        crate::verdict::judge_by(layout, file)?;
+        Ok(Module {
+            file,
+            layout,
+            positions: crate::song::song_length(layout, file),
+            extents: crate::samples::extents(layout, file),
+        })
+    }
+}
