@@ -81,6 +81,7 @@ fn read_opened<F: Read + Drop>(mut file: F, bytes: &mut [u8]) -> usize
     ensures first_bytes { IfSome (F.remaining file) (λ xs. StartsWith xs (take result bytes.new)) }
 {
     let mut done = 0;
+    // No index is counted here: each read says how far it went.
     while done < bytes.len() {
         match file.read(&mut bytes[done..]) {
             Ok(0) | Err(_) => break,
@@ -90,45 +91,54 @@ fn read_opened<F: Read + Drop>(mut file: F, bytes: &mut [u8]) -> usize
     done
 }
 
-// The number and the place that a file is answered.
-fn tell(rt: &impl Print, file: &[u8]) -> io::Result<()> {
-    let judged = reader::judge(file);
-    println!(rt; " {} {}", judged.number, judged.place)
-}
-
-// Plays the file of that name, or judges it.
-fn one<R: Files + Print>(rt: &R, errors: &impl Print, name: &[u8], plays: bool) -> io::Result<()> {
+// Reads the file of that name, and shows its bytes.
+fn one<R: Files + Print, F: Fn(&[u8]) -> io::Result<()>>(
+    rt: &R,
+    errors: &impl Print,
+    name: &[u8],
+    show: F,
+) -> io::Result<()>
+    requires { F.IsAlwaysCallable show }
+{
     let Some(file) = open_named(rt, errors, name)? else {
         return Ok(());
     };
     let mut bytes = [0u8; MOST_BYTES];
     let n = read_opened(file, &mut bytes);
-    if plays {
-        println!(rt)?;
-        return playing::play_ticks(rt, &bytes[..n]);
-    }
-    tell(rt, &bytes[..n])
+    show(&bytes[..n])
 }
 
-// Plays each file, or judges it.
-fn each<R: Env + Files + Print>(rt: &R, errors: &impl Print, plays: bool) -> io::Result<()> {
+// Shows each file's bytes.
+fn each<R: Env + Files + Print, F: Fn(&[u8]) -> io::Result<()>>(
+    rt: &R,
+    errors: &impl Print,
+    show: F,
+) -> io::Result<()>
+    requires { F.IsAlwaysCallable show }
+{
     for k in 1..usize::MAX {
         let mut name = [0u8; MOST_NAME];
         let Some(length) = name_of(rt, k, &mut name) else {
             break;
         };
-        one(rt, errors, &name[..length], plays)?;
+        one(rt, errors, &name[..length], &show)?;
     }
     Ok(())
 }
 
 // Judges each file: a line with its name, the number and the place. A file that cannot be opened is named on `errors` and passed over.
 pub fn judge_each<R: Env + Files + Print>(rt: &R, errors: &impl Print) -> io::Result<()> {
-    each(rt, errors, false)
+    each(rt, errors, |file| {
+        let judged = reader::judge(file);
+        println!(rt; " {} {}", judged.number, judged.place)
+    })
 }
 
 // Plays each file from fresh, tick by tick: its name, then a line a tick. A file that cannot be opened is named on `errors` and passed
 // over.
 pub fn play_each<R: Env + Files + Print>(rt: &R, errors: &impl Print) -> io::Result<()> {
-    each(rt, errors, true)
+    each(rt, errors, |file| {
+        println!(rt)?;
+        playing::play_ticks(rt, file)
+    })
 }
