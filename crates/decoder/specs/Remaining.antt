@@ -17,7 +17,7 @@ use Rattle.records.specs.Decoded.{stream_of_lem}
 use Rattle.decoder.specs.declared.Record.{Record}
 use Rattle.decoder.specs.Answers.{unread, as_record, answer_of}
 use Rattle.ticks.specs.Commands.{sounding_of}
-use Rattle.decoder.specs.Whole.{has_ticks, Whole}
+use Rattle.decoder.specs.Whole.{has_ticks, ticks_in, Whole}
 
 -- ---- a record that was read
 module _ (registers : List Command) (at : ℕ) (x : Read Tick) (r : Record) (e : r ≡ as_record registers at x) where
@@ -107,6 +107,14 @@ whole_good last c s h = go (decode last c s) refl h
     go (refusal number place) e t = absurd (true≢false (sym t))
     go (ticks ts) e t = record { its = ts; is = e }
 
+-- and its ticks are legal
+pub whole_ticks : (last c : ℕ) (s : List ℕ) → Whole last c s → decode last c s ≡ ticks (ticks_in (decode last c s))
+unfolding ticks_in
+whole_ticks last c s h = let g = whole_good last c s h in rw g.is
+
+pub whole_legal : (last c : ℕ) (s : List ℕ) → Whole last c s → LegalTicks last (sounding_of at_first) (ticks_in (decode last c s))
+whole_legal last c s h = (stream_of_lem last c s _ (whole_ticks last c s h)).legal
+
 -- ---- what is left of it
 -- n records from a place on, after the registers: their ticks are ts
 pub record Left (last c : ℕ) (s : List ℕ) (n at : ℕ) (registers : List Command) (ts : List Tick) : Type 0 where
@@ -150,9 +158,6 @@ module _ (last c : ℕ) (s : List ℕ) (n i at : ℕ) (registers : List Command)
       cc
 
 -- what is left is known by where it begins
-abbrev ticks_in : Decoded → List Tick
-ticks_in (refusal number place) = []
-ticks_in (ticks ts) = ts
-
 pub left_same : (last c : ℕ) (s : List ℕ) (n at : ℕ) (registers : List Command) (ts ts' : List Tick) → Left last c s n at registers ts → Left last c s n at registers ts' → ts ≡ ts'
+unfolding ticks_in
 left_same last c s n at registers ts ts' w w' = ap ticks_in (sym w.reads ∙ w'.reads)

@@ -1,17 +1,20 @@
 // A stream: its header's numbers, and the judgement of its bytes (refusals 21, 22, 28 and 23).
-ghost use Rattle.std.specs.Prelude.{◌≡◌, ◌^◌, ◌≤◌, ◌<◌, length, IfOk};
+ghost use Rattle.std.specs.Prelude.{◌≡◌, ◌^◌, ◌≤◌, ◌<◌, true, length, IfOk};
+ghost use Rattle.std.specs.Iterator.{YieldsFirst, item_count};
 ghost use Rattle.common.specs.Refusals.{judged};
 ghost use Rattle.records.specs.Format.{records_place, version_of, known_version, keeps, shift, stream_channels, tick_count, first_record, at_first, decode_records, decode};
 ghost use Rattle.decoder.specs.Answers.{answer_of};
-ghost use Rattle.decoder.specs.Whole.{verdict_of, Whole};
+ghost use Rattle.decoder.specs.Whole.{verdict_of, has_ticks, ticks_in, Whole};
 
-use crate::reading::Scope;
+use crate::reading::{Record, Scope};
 use common::bytes::four;
+use common::limits::WIDTH;
 use common::refusals::{Refusal, Rule};
 use records::{
     CHANNELS_PLACE, COUNT_PLACE, COUNTED_VERSION, FIRST_VERSION, LEAST_PLACE, OLD_CHANNELS,
     VERSION, VERSION_PLACE,
 };
+use ticks::{Command, Tick};
 
 // A stream's bytes, whose header is in.
 #[derive(Clone, Copy)]
@@ -26,6 +29,16 @@ pub struct Stream<'a> {
     pub scope: Scope,
     pub header: Header<'a>,
     ghost whole: { Whole scope.last scope.channels header.bytes.now },
+}
+
+// The ticks of a stream that are left, from a record on. The registers are the commands of the tick before.
+#[derive(Drop)]
+pub struct Ticks<'a> {
+    pub stream: Stream<'a>,
+    pub registers: [Command; WIDTH],
+    pub next: usize,
+    pub left: usize,
+    ghost all: { has_ticks (decode_records stream.scope.last stream.scope.channels stream.header.bytes.now left next registers) ≡ true },
 }
 
 // By how many bytes a version's channel count moves what comes after it.
@@ -144,5 +157,47 @@ impl<'a> Stream<'a> {
         }
         header.check_records(scope)?;
         Ok(Stream { scope, header })
+    }
+}
+
+impl<'a> Stream<'a> {
+    ghost use Rattle.decoder.specs.Left.{ticks_left};
+
+    // The stream's ticks, one by one.
+    #[tactic(auto, using(crate::proofs::Records::whole_reads))]
+    pub fn ticks(&self) -> Ticks<'a>
+        ensures { ticks_left result ≡ ticks_in (decode self.now.scope.last self.now.scope.channels self.now.header.bytes.now) }
+    {
+        Ticks {
+            stream: *self,
+            registers: records::at_first(),
+            next: self.header.first_record(),
+            left: self.header.count(),
+        }
+    }
+}
+
+impl<'a> Iterator for Ticks<'a> {
+    ghost use Rattle.decoder.specs.Left.{ticks_left};
+
+    type Item = Tick;
+
+    ghost next_gives = { YieldsFirst ticks_left };
+
+    ghost remaining = { item_count ticks_left };
+
+    #[tactic(auto, using(crate::proofs::Records::next_there, crate::proofs::Records::next_first, crate::proofs::Records::next_others, crate::proofs::Records::next_none))]
+    fn next(&mut self) -> Option<Tick> {
+        let left = self.left.checked_sub(1)?;
+        let stream = self.stream;
+        let Record { tick, next } = stream
+            .scope
+            .read_record(stream.header.bytes, self.next, &self.registers)
+            .unwrap();
+        let commands = tick.commands;
+        self.registers = commands;
+        self.next = next;
+        self.left = left;
+        Some(tick)
     }
 }
