@@ -1,8 +1,13 @@
 -- What the functions of the song rest on: places and moves by their numbers, a row's few ticks, and the loops over the channels.
 -- Assumes nothing.
-use Rattle.std.proofs.Common.{◌≡◌, ℕ, ◌+◌, ◌*◌, ◌%◌, ◌^◌, ◌<◌, ◌≤◌, Bool, true, false, cond, ltb, List, length, get_or, set, replicate, sym, refl, ap, ◌∙◌, mul-le-mul, add-one, arith, ltb-false, le-ltb, lt-ltb, eq-eqb}
-use Rattle.std.proofs.Common.{zero-le}
-use Rattle.laws.specs.Ranges.{partly}
+use Rattle.std.proofs.Common.{◌≡◌, ℕ, zero, suc, ◌+◌, ◌*◌, ◌%◌, ◌^◌, ◌<◌, ◌≤◌, Bool, true, false, cond, ltb, List, length, get_or, set, replicate, sym, refl, ap, ◌∙◌, mul-le-mul, add-one, arith, ltb-false, le-ltb, lt-ltb, eq-eqb}
+use Rattle.std.proofs.Common.{zero-le, [], ◌∷◌, ◌++◌}
+use Rattle.std.proofs.Math.Bool.{and-true}
+use Rattle.std.proofs.lemmas.List.{map-id}
+use Rattle.std.proofs.lemmas.List.Folds.{list_all-append}
+use Rattle.std.proofs.lemmas.List.FromFn.{map-range_with_len_more}
+use Rattle.std.specs.List.{list_all, range_with_len}
+use Rattle.laws.specs.Ranges.{every, partly}
 use Rattle.laws.specs.Each.{each_by, same_parts, Parting, pad_begin, within_begin, part_again, part_end}
 use Rattle.common.specs.Limits.{width, last_byte}
 use Rattle.common.specs.ByteLaws.{Bytes}
@@ -23,12 +28,11 @@ use Rattle.effects.specs.declared.Voiced.{Voiced}
 use Rattle.sequencer.specs.Row.{row_flow, flow_from, flow_through}
 use Rattle.sequencer.specs.RowFacts.{BeginsAt, cell_there}
 use Rattle.sequencer.specs.Voicing.{BeforeWork}
-use Rattle.sequencer.specs.Songs.{place, song_by, song_work, voiced_on, all_voiced, row_ticks, next_tick}
+use Rattle.sequencer.specs.Songs.{song_by, song_work, voiced_on, all_voiced, row_ticks, next_tick}
 use Rattle.sequencer.specs.Legal.{greatest_speed, last_delay}
 use Rattle.sequencer.specs.Kept.{work_kept, channel_kept, command_legal}
 use Rattle.sequencer.specs.declared.Place.{Place}
 use Rattle.sequencer.specs.declared.Time.{Time}
-use Rattle.sequencer.specs.declared.Move.{Move}
 use Rattle.sequencer.specs.declared.Flow.{Flow}
 use Rattle.sequencer.specs.declared.Song.{Song}
 use Rattle.sequencer.specs.declared.AllVoiced.{AllVoiced}
@@ -37,17 +41,6 @@ use Rattle.reader.specs.Layouts.{LegalLayout}
 use Rattle.sequencer.specs.LegalFacts.{LegalTime, LegalSong, LegalRun}
 
 -- ---- places and moves
-pub last_position : (positions p : ℕ) → positions ≤ p → ltb (p + 1) positions ≡ false
-last_position positions p l = le-ltb (p + 1) positions (omega arith)
-
-pub same_place : (p q row : ℕ) → p ≡ q → place p row ≡ place q row
-same_place p q row e = rw e
-
-abbrev moved : ℕ → ℕ → Move
-moved position row = record { given = true; position = position; row = row }
-
-pub same_move : (p q r s : ℕ) → p ≡ q → r ≡ s → moved p r ≡ moved q s
-same_move p q r s e f = rw (e, f)
 
 -- ---- a row's ticks
 -- of numbers that fit 32 bits, they fit 64
@@ -68,25 +61,12 @@ unfolding next_tick
 next_over t n e l = rw (le-ltb (t.tick + 1) (row_ticks t) (rw e at l))
 
 -- ---- the row's work, channel by channel
-pub record Flowed (m : Module) (at : Place) (f₀ : Flow) (positions : ℕ) (f : Flow) (i : ℕ) : Type 0 where
-  pub low : i ≤ channel_count m
-  pub length : positions ≡ song_length m
-  pub flow : f ≡ flow_through m at f₀ i
-
-module _ (m : Module) (at : Place) (f₀ : Flow) (positions : ℕ) where
-  pub flow_begin : positions ≡ song_length m → Flowed m at f₀ positions f₀ 0
-  unfolding flow_through
-  flow_begin e = record { low = zero-le; length = e; flow = refl }
-
-  pub flow_again : (f g : Flow) (c : Cell) (row i : ℕ) → BeginsAt m at row → Flowed m at f₀ positions f i → i < channel_count m → c ≡ cell_from m.bytes (row + 4 * i) → g ≡ row_flow positions at.row c f → Flowed m at f₀ positions g (i + 1)
-  unfolding flow_through
-  flow_again f g c row i b w l e q = record { low = omega arith; length = w.length; flow = rw (add-one, ← cell_there m at row b i, ← e, ← w.flow, ← w.length) q }
-
-  pub flow_end : (f : Flow) (i : ℕ) → Flowed m at f₀ positions f i → channel_count m ≤ i → f ≡ flow_through m at f₀ (channel_count m)
-  flow_end f i w l = w.flow ∙ ap (flow_through m at f₀) (omega (arith, w.low))
+pub flow_again : (m : Module) (at : Place) (f₀ f g : Flow) (c : Cell) (row i positions : ℕ) → BeginsAt m at row → positions ≡ song_length m → f ≡ flow_through m at f₀ i → c ≡ cell_from m.bytes (row + 4 * i) → g ≡ row_flow positions at.row c f → g ≡ flow_through m at f₀ (i + 1)
+unfolding flow_through
+flow_again m at f₀ f g c row i positions b p w e q = rw (add-one, ← cell_there m at row b i, ← e, ← w, ← p) q
 
 -- at u = 0 the song is as the row's cells make it
-pub row_done : (l : Layout) (xs : List ℕ) (positions : ℕ) (s r : Song) (f g : Flow) → s.time.tick ≡ 0 → positions ≡ song_length (lent l xs) → f ≡ flow_from positions s.course s.time → g ≡ flow_through (lent l xs) s.course.at f l.channels → r ≡ song_by positions s g → r ≡ song_work (lent l xs) s
+pub row_done : (l : Layout) (xs : List ℕ) (positions : ℕ) (s r : Song) (f g : Flow) → s.time.tick ≡ 0 → positions ≡ song_length (lent l xs) → f ≡ flow_from s.course s.time → g ≡ flow_through (lent l xs) s.course.at f l.channels → r ≡ song_by positions s g → r ≡ song_work (lent l xs) s
 unfolding song_work
 row_done l xs positions s r f g z p q h k = rw (eq-eqb s.time.tick 0 z, ← p, ← q, ← h) k
 
@@ -176,3 +156,12 @@ module _ (cs : List Command) (c : ℕ) (xs : List ℕ) where
     unfolding partly
     sampling_end h =
         part_end _ _ _ _ _ i c w.filled h w.most ∙ sym (each_by (λ j. cond (ltb j c) (get_or cs j nothing).sample 0) width 0 (sounding_of cs) (length-sounding cs ∙ w.long) sounds_at)
+
+-- ---- a test of every number below a bound, as a list of them tells it
+range_more : (n : ℕ) → range_with_len 0 (suc n) ≡ range_with_len 0 n ++ n ∷ []
+range_more n = rw add-one at (simp map-id at (map-range_with_len_more (λ k. k) 0 n n (omega arith)))
+
+pub every_list : (p : ℕ → Bool) (n : ℕ) → list_all p (range_with_len 0 n) ≡ every p n
+unfolding every
+every_list p zero = refl
+every_list p (suc n) = ap (list_all p) (range_more n) ∙ list_all-append p (range_with_len 0 n) (n ∷ []) ∙ rw (every_list p n, and-true (p n))

@@ -46,7 +46,7 @@ module _ (m : Module) (a : Accepted m) (b : Bytes m.bytes) (s : Song) (l : Legal
   row_song : s.time.tick ≡ 0 → LegalSong (song_length m) m.layout (song_by (song_length m) s (flow_of m s.course s.time))
   unfolding song_by
   row_song e =
-      let f = flows _ (flow_from_legal (song_length m) s.course s.time a.song.0 e l.course l.time) (channel_count m) in
+      let f = flows _ (flow_from_legal (song_length m) s.course s.time e l.course l.time) (channel_count m) in
       record { course = course_legal _ _ _ a.song.0 l.course f; time = f.time; channels = l.channels; rest = l.rest }
 
   pub work_kept : LegalSong (song_length m) m.layout (song_work m s)

@@ -1,7 +1,7 @@
 -- The row's work keeps what it works on legal: the time, the loop, and where B and D lead, after any number of an accepted file's cells.
 -- The main law: `flow_legal`.
 -- Assumes nothing.
-use Rattle.std.specs.Prelude.{◌≡◌, ℕ, ◌+◌, ◌-◌, ◌%◌, ◌<◌, ◌≤◌, ◌==◌, nat_lt}
+use Rattle.std.specs.Prelude.{◌≡◌, ℕ, ◌+◌, ◌-◌, ◌%◌, ◌<◌, ◌≤◌, ◌==◌, nat_lt, Option, IfSome}
 use Rattle.std.proofs.Common.{arith}
 use borrow.Author.Tests.{eqb-false, ltb-true, ltb-false}
 use Rattle.std.proofs.Common.{zero-le}
@@ -19,17 +19,16 @@ use Rattle.sequencer.specs.declared.Looping.{Looping}
 use Rattle.sequencer.specs.declared.Move.{Move}
 use Rattle.sequencer.specs.declared.Flow.{Flow}
 use Rattle.common.specs.LimitFacts.{Between}
-use Rattle.sequencer.specs.LegalFacts.{LegalCourse, LegalTime}
+use Rattle.sequencer.specs.LegalFacts.{LegalLoop, LegalCourse, LegalTime}
 
 -- ---- on the way through a row
 pub record LegalLooping (l : Looping) : Type 0 where
-  pub row : l.row ≤ last_row
-  pub count : l.count ≤ last_delay
-  pub target : l.target ≤ last_row
+  pub kept : LegalLoop l.kept
+  pub target : IfSome l.target (λ row. row ≤ last_row)
 
 pub record LegalMove (positions : ℕ) (v : Move) : Type 0 where
-  pub position : v.position < positions
-  pub row : v.row ≤ last_row
+  pub position : IfSome v.position (λ p. p < positions)
+  pub row : IfSome v.row (λ row. row ≤ last_row)
 
 -- at u = 0
 pub record LegalFlow (positions : ℕ) (f : Flow) : Type 0 where
@@ -61,7 +60,10 @@ following_legal positions p h = either (λ (k : ℕ). k < positions) (nat_lt (p 
 counted_legal : (l : Looping) (n : ℕ) → LegalLooping l → n ≤ last_delay → LegalLooping (counted l n)
 unfolding counted
 counted_legal l n h k =
-    either LegalLooping (n == 0) _ _ (λ e. record { row = h.row; count = zero-le; target = h.target }) (λ e. record { row = h.row; count = k; target = h.row })
+    record {
+      kept = record { row = h.kept.row; count = k };
+      target = either (λ (o : Option ℕ). IfSome o (λ row. row ≤ last_row)) (n == 0) _ _ (λ e. h.target) (λ e. h.kept.row);
+    }
 
 module _ (c : Cell) where
   speed_legal : (s : ℕ) → Between least_speed greatest_speed s → Between least_speed greatest_speed (row_speed c s)
@@ -93,8 +95,8 @@ module _ (c : Cell) where
   unfolding row_loop
   loop_legal row r l h =
       either LegalLooping (c.effect == 0xE6) _ _
-      (λ f. either LegalLooping (y c == 0) _ _ (λ e. record { row = r; count = h.count; target = h.target })
-      (λ e. counted_legal l _ h (search (cond-le, nibble, fewer, h))))
+      (λ f. either LegalLooping (y c == 0) _ _ (λ e. record { kept = record { row = r; count = h.kept.count }; target = h.target })
+      (λ e. counted_legal l _ h (search (cond-le, nibble, fewer, h.kept))))
       (λ f. h)
 
   move_legal : (positions : ℕ) → 0 < positions → (v : Move) → LegalMove positions v → LegalMove positions (row_move positions c v)
@@ -114,12 +116,6 @@ module _ (c : Cell) where
       }
 
 -- ---- before the row's first cell
-pub flow_from_legal : (positions : ℕ) (c : Course) (t : Time) → 0 < positions → t.tick ≡ 0 → LegalCourse positions c → LegalTime t → LegalFlow positions (flow_from positions c t)
+pub flow_from_legal : (positions : ℕ) (c : Course) (t : Time) → t.tick ≡ 0 → LegalCourse positions c → LegalTime t → LegalFlow positions (flow_from c t)
 unfolding flow_from
-flow_from_legal positions c t z e l h =
-    record {
-      first = e;
-      time = h;
-      looping = record { row = l.looping.row; count = l.looping.count; target = zero-le };
-      moving = record { position = following_legal positions c.at.position z; row = zero-le };
-    }
+flow_from_legal positions c t e l h = record { first = e; time = h; looping = record { kept = l.looping; target = tt }; moving = record { position = tt; row = tt } }

@@ -1,7 +1,7 @@
 -- The song: the next place, the whole of a tick, and what comes after its frames.
 -- The sounding sample numbers stand beside the song, a number for each channel; a song has no voices.
 -- Assumes nothing.
-use Rattle.std.specs.Prelude.{ℕ, ◌+◌, ◌*◌, ◌%◌, ◌^◌, cond, List, ◌==◌, nat_lt, slice_index, slice_index_or}
+use Rattle.std.specs.Prelude.{ℕ, ◌+◌, ◌*◌, ◌%◌, ◌^◌, ◌&&◌, ◌||◌, cond, List, ◌==◌, nat_lt, Option, None, Some, is_some, is_none, option_map, unwrap_or, slice_index, slice_index_or}
 use Rattle.laws.specs.Ranges.{each, padded}
 use Rattle.ticks.specs.Commands.{nothing}
 use Rattle.common.specs.Limits.{width, last_row}
@@ -16,6 +16,7 @@ use Rattle.sequencer.specs.declared.Loop.{Loop}
 use Rattle.sequencer.specs.declared.Course.{Course}
 use Rattle.sequencer.specs.declared.Time.{Time}
 use Rattle.sequencer.specs.declared.Desk.{Desk}
+use Rattle.sequencer.specs.declared.Move.{Move}
 use Rattle.sequencer.specs.declared.Flow.{Flow}
 use Rattle.sequencer.specs.declared.Song.{Song}
 use Rattle.sequencer.specs.declared.AllVoiced.{AllVoiced}
@@ -49,21 +50,23 @@ abbrev pub fresh_sounding : List ℕ
 fresh_sounding = each (λ i. 0) width
 
 -- ---- the next place
--- with B or D, B's position and D's row; otherwise an asked jump; otherwise the next row, or row 0 of the following position after 63
+-- with B or D, B's position and D's row: with D alone the following position, with B alone row 0
+unfoldable pub led_to : ℕ → Move → Option Place
+led_to after v = cond (is_none v.position && is_none v.row) None (Some (place (unwrap_or v.position after) (unwrap_or v.row 0)))
+
+-- the next row, or row 0 of the following position after 63
+unfoldable pub passed : ℕ → Place → Place
+passed after at = cond (nat_lt at.row last_row) (place at.position (at.row + 1)) (place after 0)
+
+-- where B or D lead; otherwise an asked jump; otherwise what comes by itself
 unfoldable pub next_of : ℕ → Place → Flow → Place
 next_of positions at f =
-    cond f.moving.given (place f.moving.position f.moving.row)
-    (cond f.looping.asked (place at.position f.looping.target)
-    (cond (nat_lt at.row last_row) (place at.position (at.row + 1))
-    (place (following positions at.position) 0)))
+    let after = following positions at.position in
+    unwrap_or (led_to after f.moving) (unwrap_or (option_map (place at.position) f.looping.target) (passed after at))
 
 -- fixing it by B, D or row 63 sets loop row and count to 0 at once
 unfoldable pub loop_after : ℕ → Flow → Loop
-loop_after row f =
-    cond f.moving.given no_loop
-    (cond f.looping.asked (record { row = f.looping.row; count = f.looping.count })
-    (cond (nat_lt row last_row) (record { row = f.looping.row; count = f.looping.count })
-    no_loop))
+loop_after row f = cond (is_none f.moving.position && is_none f.moving.row && (is_some f.looping.target || nat_lt row last_row)) f.looping.kept no_loop
 
 -- the course with what all channels did to it
 unfoldable pub course_by : ℕ → Course → Flow → Course

@@ -34,7 +34,7 @@ pub struct Place {
 }
 
 // The loop row and count.
-#[derive(Clone, Copy)]
+#[derive(Clone, Copy, Default)]
 pub struct Loop {
     pub row: u32,
     pub count: u32,
@@ -58,7 +58,7 @@ pub struct Time {
 }
 
 // What touches are held against.
-#[derive(Clone, Copy)]
+#[derive(Clone, Copy, Default)]
 pub struct Desk {
     pub clock: u32,
     pub page: u32,
@@ -74,21 +74,18 @@ pub struct Song {
     pub channels: [Channel; WIDTH],
 }
 
-// The loop row and count on the way through a row, and the jump that it asks for.
+// The loop on the way through a row, which the song keeps, and the row that a jump is asked to.
 #[derive(Clone, Copy)]
 pub struct Looping {
-    pub row: u32,
-    pub count: u32,
-    pub asked: bool,
-    pub target: u32,
+    pub kept: Loop,
+    pub target: Option<u32>,
 }
 
-// Where B and D lead, if the row has one.
-#[derive(Clone, Copy)]
+// B's position and D's row, where the row has them.
+#[derive(Clone, Copy, Default)]
 pub struct Move {
-    pub given: bool,
-    pub position: u32,
-    pub row: u32,
+    pub position: Option<u32>,
+    pub row: Option<u32>,
 }
 
 // What a row's cells do to the song.
@@ -117,23 +114,20 @@ pub struct Worked {
 pub fn course_from(position: u32) -> Course
     ensures { result ≡ course_from position }
 {
-    let at = Place {
-        position: position,
-        row: 0,
-    };
+    let at = Place { position, row: 0 };
     Course {
-        at: at,
+        at,
         next: at,
-        looping: Loop { row: 0, count: 0 },
+        looping: Loop::default(),
     }
 }
 
 // The song before its first tick.
+#[tactic(auto, unfolding(crate::specs::Songs::fresh_song, laws::specs::Ranges::each))]
 pub fn fresh() -> Song
     ensures { result ≡ fresh_song }
 {
-    let channel = effects::fresh_channel();
-    let channels = [channel; WIDTH];
+    let channels = [effects::fresh_channel(); WIDTH];
     Song {
         course: course_from(0),
         time: Time {
@@ -142,8 +136,8 @@ pub fn fresh() -> Song
             speed: 6,
             tempo: 125,
         },
-        desk: Desk { clock: 0, page: 0 },
-        channels: channels,
+        desk: Desk::default(),
+        channels,
     }
 }
 
@@ -205,33 +199,15 @@ fn all_voiced(
     let t = u % song.time.speed;
     let channels = song.channels;
     let mut all = before_work(channels);
-    let mut i = 0;
-    while i < layout.channels {
+    for i in 0..layout.channels {
         let voiced = voiced_on(file, row, u, t, song.channels[i], sounding[i], i);
-        let channel = voiced.channel;
-        all.channels[i] = channel;
-        let command = voiced.command;
-        all.commands[i] = command;
-        i += 1;
+        all.channels[i] = voiced.channel;
+        all.commands[i] = voiced.command;
     }
     all
 }
 
-fn tick_with(song: Song, voiced: AllVoiced) -> Worked
-    requires { LegalTime song.time }
-    ensures { result ≡ tick_with song voiced }
-{
-    let channels = voiced.channels;
-    let commands = voiced.commands;
-    Worked {
-        song: next::advanced(song, channels),
-        tick: Tick {
-            tempo: song.time.tempo,
-            commands: commands,
-        },
-    }
-}
-
+#[tactic(auto, unfolding(crate::specs::Songs::tick_of, crate::specs::Songs::tick_with), using(crate::proofs::Laws::run_small))]
 // One tick of a legal song: the song after it, and what it tells the voices. `sounding` are the samples that the voices have, legal too.
 pub fn tick(layout: Layout, file: &[u8], song: Song, sounding: [u32; WIDTH]) -> Worked
     requires layout { LegalLayout layout }
@@ -242,22 +218,20 @@ pub fn tick(layout: Layout, file: &[u8], song: Song, sounding: [u32; WIDTH]) -> 
     let positions = reader::song::song_length(layout, file);
     let at = song.course.at;
     let row = reader::song::row_at(layout, file, at.position, at.row);
-    let voiced = all_voiced(layout, file, row, song, sounding);
-    tick_with(row::song_work(layout, file, positions, row, song), voiced)
+    let worked = row::song_work(layout, file, positions, row, song);
+    let AllVoiced { channels, commands } = all_voiced(layout, file, row, song, sounding);
+    Worked {
+        song: next::advanced(worked, channels),
+        tick: Tick {
+            tempo: worked.time.tempo,
+            commands,
+        },
+    }
 }
 
-// The samples that the voices have after these commands; past the channels in use they have none.
-pub fn sounding_of(channels: usize, commands: [Command; WIDTH]) -> [u32; WIDTH]
-    requires few { channels ≤ width }
-    requires rest { (i : ℕ) → i < width → channels ≤ i → slice_index (sounding_of commands) i ≡ 0 }
+// The samples that the voices have after these commands.
+pub fn sounding_of(commands: [Command; WIDTH]) -> [u32; WIDTH]
     ensures { result ≡ sounding_of commands }
 {
-    let mut samples = [0; WIDTH];
-    let mut i = 0;
-    while i < channels {
-        let command = commands[i];
-        samples[i] = command.sample as u32;
-        i += 1;
-    }
-    samples
+    commands.map(|command| u32::from(command.sample))
 }

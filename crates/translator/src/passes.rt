@@ -29,7 +29,7 @@ fn next_tick(layout: Layout, file: &[u8], song: Song, registers: [Command; WIDTH
         layout,
         file,
         song,
-        sequencer::sounding_of(layout.channels, registers),
+        sequencer::sounding_of(registers),
     )
 }
 

@@ -1,11 +1,7 @@
 -- The loop: channels and commands are filled with what the channels passed give.
 use Rattle.reader.specs.File.{lent}
-use Rattle.std.proofs.Common.{◌-◌}
 use Rattle.sequencer.proofs.Laws.{Voicing}
 use Rattle.sequencer.proofs.all_voiced.Given as goal
 
 abbrev pub invariant-loop-i : goal.invariant-loop-i
-invariant-loop-i l = Voicing (lent l.layout l.file) l.song l.sounding l.row l.all l.i
-
-abbrev pub decreases-loop-i : goal.decreases-loop-i
-decreases-loop-i l = l.layout.channels - l.i
+invariant-loop-i l = Voicing (lent l.fn.layout l.file) l.song l.sounding l.row l.all l.i

@@ -1,13 +1,12 @@
--- The loop: the samples of the commands passed.
-use Rattle.std.proofs.Common.{rules}
-use Rattle.sequencer.proofs.Laws.{sampling_none, sampling_more, sampling_end}
+-- Number by number.
+use Rattle.std.proofs.Common.{rules, ◌≡◌, ◌∙◌, arith, length, get_or, sym, ext_get_or}
+use Rattle.common.specs.Limits.{width}
+use Rattle.ticks.specs.Commands.{nothing, sounding_of}
+use Rattle.ticks.specs.Legal.{length-sounding, get_or-sounding}
 use Rattle.sequencer.proofs.sounding_of.Goals as goal
 
-pub loop-i-init : goal.loop-i-init
-loop-i-init c = search (sampling_none, rules)
-
-pub loop-i-preserved : goal.loop-i-preserved
-loop-i-preserved c = search (sampling_more, rules)
-
 pub returns : goal.returns
-returns c = search (sampling_end, rules)
+returns c =
+    let long : length c.args.commands ≡ width = search rules in
+    ext_get_or 0 c.map.result (sounding_of c.args.commands) (c.map.ensures.items.long ∙ sym (length-sounding _ ∙ long))
+    (λ i h. let k = (c.map.ensures.items.at i nothing 0 (omega (arith, c.map.ensures.items.long))).2 in let e : get_or c.map.result i 0 ≡ (get_or c.args.commands i nothing).sample = search (k, rules) in e ∙ sym (get_or-sounding _ i))

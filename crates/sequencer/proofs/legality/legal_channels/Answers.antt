@@ -1,21 +1,14 @@
--- The loop: whether every channel passed is legal.
-use Rattle.std.proofs.Common.{rules}
-use Rattle.laws.specs.Every.{every_zero, every_step, every_end}
+-- Every channel answers for itself.
+use Rattle.std.proofs.Common.{rules, ◌∙◌, refl}
+use Rattle.std.proofs.lemmas.Iterator.{YieldsList-from_range}
+use Rattle.std.proofs.lemmas.Iterator.Search.{all_from_yields_List}
+use Rattle.laws.specs.Tests.{tests}
+use Rattle.common.specs.Limits.{width}
 use Rattle.sequencer.specs.Legal.{legal_at}
+use Rattle.sequencer.proofs.Laws.{every_list}
 use Rattle.sequencer.proofs.legality.legal_channels.Goals as goal
-
-pub loop-i-init : goal.loop-i-init
-unfolding legal_at
-loop-i-init c = search (every_zero, rules)
-
-pub legal_or_fresh-legal-requires : goal.legal_or_fresh-legal-requires
-unfolding legal_at
-legal_or_fresh-legal-requires c = search rules
-
-pub loop-i-preserved : goal.loop-i-preserved
-unfolding legal_at
-loop-i-preserved c = search (every_step, rules)
 
 pub returns : goal.returns
 unfolding legal_at
-returns c = search (every_end, rules)
+returns c =
+    all_from_yields_List (legal_at c.args.layout c.args.all) _ _ c.all.result c.all.ensures.ran (YieldsList-from_range 0 width width refl refl) (λ x b q k. search (rules, tests)) ∙ every_list _ width
