@@ -5,13 +5,12 @@ use mathlib.Core.Bool.{true}
 use mathlib.Core.List.{List, [], ◌++◌}
 use Prim.Native.Nat.{ℕ, ◌+◌, ◌*◌, ◌≤◌, ◌<◌}
 use native.Mathlib.Nat.{add-zero}
-use native.Mathlib.Omega.{arith}
 use lib.ListN.{length, get_or, drop, replicate}
 use lib.IntN.{ℤ, pos, ◌*ℤ◌}
 use Rattle.laws.specs.Ranges.{every, within}
 use Rattle.laws.specs.Every.{every_at}
 use Rattle.laws.specs.Each.{Filled}
-use Rattle.common.specs.Limits.{width, sample_numbers}
+use Rattle.common.specs.Limits.{width}
 use Rattle.runs.specs.Cells.{Woven}
 use Rattle.ticks.specs.declared.Command.{Command}
 use Rattle.ticks.specs.Commands.{nothing}
@@ -39,14 +38,11 @@ module _ (l : Layout) (file : List ℕ) (extents : List Extent) (vs : List Voice
   abbrev samples : ℕ → Sample
   samples = samples_in (lent l file) extents
 
-  pub channels_few : c ≤ width
+  channels_few : c ≤ width
   channels_few = layout.channels
 
   pub scale_legal : (times : ℕ) → times ≡ scale_of c → LegalSides c times
   scale_legal times e = rw e (sides_legal c channels_few)
-
-  pub samples_known : (i : ℕ) → i < c → (get_or cs i nothing).sample < sample_numbers
-  samples_known i h = omega (arith, (ready.commands i h).sample, layout.samples)
 
   module _ (marks : List Extent) (told : List Voice) (f : Filled (mark_at extents cs) no_extent width marks c) (t : told ≡ within (told_at marks vs cs) blank c width vs) where
     cut_is : (i : ℕ) → i < c → cut_of file (extent_at marks i) ≡ sounding_at samples cs i

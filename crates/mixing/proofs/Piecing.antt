@@ -3,26 +3,29 @@
 use mathlib.Core.Path.{◌≡◌, refl, sym, ap, ap₂, subst, ◌∙◌}
 use mathlib.Core.Bool.{Bool, true, false, cond}
 use mathlib.Core.List.{List}
-use Prim.Native.Nat.{ℕ, zero, suc, ◌+◌, ◌*◌, ◌≤◌, ◌<◌}
+use Prim.Native.Nat.{ℕ, zero, suc, ◌+◌, ◌-◌, ◌*◌, ◌≤◌, ◌<◌}
 use native.Mathlib.Nat.{add_comm}
 use native.Mathlib.Omega.{arith}
 use borrow.Author.Tests.{eqb-true, ne_eqb, eq-eqb}
 use lib.Dec.{eqb}
 use lib.ListN.{length, get_or}
 use lib.IntN.{ℤ, pos, ◌+ℤ◌, ◌*ℤ◌}
+use Rattle.std.specs.Prelude.{min}
+use Rattle.std.specs.Int.{div_ceil}
+use Rattle.std.proofs.lemmas.Grind.{div_ceil_times}
 use Rattle.laws.specs.Choice.{either}
 use Rattle.common.specs.Limits.{width}
 use Rattle.common.specs.LimitFacts.{LegalPeriod}
-use Rattle.runs.specs.Cells.{stride, Woven}
+use Rattle.runs.specs.Cells.{Woven}
 use Rattle.runs.specs.CellLaws.{woven_none, woven_as, woven_more}
 use Rattle.reader.specs.declared.Extent.{Extent}
 use Rattle.voice.specs.declared.Voice.{Voice}
 use Rattle.voice.specs.Voice.{gives_of}
 use Rattle.voice.specs.Frames.{steps_of, side_of, sum_of}
 use Rattle.voice.specs.Kept.{steps_add, steps_period, sound_steps}
-use Rattle.voice.specs.Range.{side_two, LegalSides}
+use Rattle.voice.specs.Range.{side_two}
 use Rattle.voice_runs.specs.declared.line.Pace.{Pace}
-use Rattle.voice_runs.specs.Runs.{piece, spare, Paced}
+use Rattle.voice_runs.specs.Runs.{piece, Paced}
 use Rattle.mixing.specs.Sides.{cut_of, Voiced, extent_at, voice_in, Sounding, no_pace, Pacing, given_by, side_at, later_at, sided_at, sided_of, later_of}
 use Rattle.mixing.proofs.Voices.{within_by, within_is, within_again}
 use Rattle.mixing.proofs.Seeking.{voiced_loop}
@@ -128,52 +131,42 @@ module _ (file : List ℕ) (xs : List Extent) (vs : List Voice) (c : ℕ) (s : S
     unfolding side_at given_by
     later_side times side j = ap (λ (z : ℤ). z *ℤ pos times) (sum_side _ _ side c (λ i h _. ap (gives_of (cut_of file (extent_at xs i)).bytes) (further_on j i h)))
 
--- ---- the loop
--- a side's cells have room for a piece
-abbrev pub Spacious : List ℤ → Type 0
-Spacious cells = length cells ≡ piece + spare
-
--- k frames of n are mixed
-pub record Piecing (file : List ℕ) (xs : List Extent) (vs : List Voice) (ps : List Pace) (times c n : ℕ) (out₀ out : List ℤ) (w : List Voice) (k : ℕ) : Type 0 where
-  pub count : k ≤ n
-  pub sounding : Sounding file xs vs c
-  pub pacing : Pacing vs ps c
-  pub sides : LegalSides c times
-  pub fits : stride * n ≤ length out
+-- ---- the loop: k frames are mixed
+pub record Piecing (file : List ℕ) (xs : List Extent) (vs : List Voice) (times c : ℕ) (out₀ out : List ℤ) (w : List Voice) (k : ℕ) : Type 0 where
   pub voices : w ≡ later_of file xs vs k c
   pub woven : Woven (side_at file xs vs times 0 c) (side_at file xs vs times 1 c) 0 k out₀ out
 
-module _ (file : List ℕ) (xs : List Extent) (vs : List Voice) (ps : List Pace) (times c n : ℕ) (out₀ : List ℤ) where
-  pub piecing_none : Sounding file xs vs c → Pacing vs ps c → LegalSides c times → stride * n ≤ length out₀ → length vs ≡ width → Piecing file xs vs ps times c n out₀ out₀ vs 0
-  unfolding later_of steps_of
-  piecing_none s p l f w =
-      record { count = omega arith; sounding = s; pacing = p; sides = l; fits = f; voices = within_by _ c vs vs w (λ i h. refl) (λ i b h. refl); woven = woven_none _ _ 0 out₀ }
+pub piecing_none : (file : List ℕ) (xs : List Extent) (vs : List Voice) (times c : ℕ) (out : List ℤ) (k : ℕ) → k ≡ 0 → length vs ≡ width → Piecing file xs vs times c out out vs k
+unfolding later_of steps_of
+piecing_none file xs vs times c out k q l = rw q record { voices = within_by _ c vs vs l (λ i h. refl) (λ i b h. refl); woven = woven_none _ _ 0 out }
 
-  module _ (out : List ℤ) (w : List Voice) (k : ℕ) (m : Piecing file xs vs ps times c n out₀ out w k) where
-    pub piecing_long : length out ≡ length out₀
-    piecing_long = m.woven.same
+module _ {file : List ℕ} {xs : List Extent} {vs : List Voice} {times c : ℕ} {out₀ out : List ℤ} {w : List Voice} {k : ℕ} (s : Sounding file xs vs c) (m : Piecing file xs vs times c out₀ out w k) where
+  pub piecing_sounding : Sounding file xs w c
+  piecing_sounding = later_sounding file xs vs c s k w m.voices
 
-    pub piecing_sounding : Sounding file xs w c
-    piecing_sounding = later_sounding file xs vs c m.sounding k w m.voices
+  pub piecing_pacing : (ps : List Pace) → Pacing vs ps c → Pacing w ps c
+  piecing_pacing = later_pacing file xs vs c s k w m.voices
 
-    pub piecing_pacing : Pacing w ps c
-    piecing_pacing = later_pacing file xs vs c m.sounding k w m.voices ps m.pacing
+  -- r more, which begin at the k-th
+  pub piecing_more : (r at later : ℕ) (new : List ℤ) (u : List Voice) → k ≡ at → at + r ≡ later → u ≡ later_of file xs w r c → Woven (side_at file xs w times 0 c) (side_at file xs w times 1 c) at r out new → Piecing file xs vs times c out₀ new u later
+  piecing_more r at later new u p q e z =
+      rw (← q, ← p)
+      record {
+        voices = later_moved file xs vs c s k w m.voices r u e;
+        woven = woven_more _ _ _ _ k r out₀ out new (λ j _. later_side file xs vs c s k w m.voices times 0 j) (λ j _. later_side file xs vs c s k w m.voices times 1 j) m.woven (rw (← p) at z);
+      }
 
-    pub piecing_more : (r : ℕ) (new : List ℤ) (u : List Voice) → k + r ≤ n → u ≡ later_of file xs w r c → Woven (side_at file xs w times 0 c) (side_at file xs w times 1 c) k r out new → Piecing file xs vs ps times c n out₀ new u (k + r)
-    piecing_more r new u h e z =
-        record {
-          count = h;
-          sounding = m.sounding;
-          pacing = m.pacing;
-          sides = m.sides;
-          fits = omega (arith, m.fits, z.same);
-          voices = later_moved file xs vs c m.sounding k w m.voices r u e;
-          woven = woven_more _ _ _ _ k r out₀ out new (λ j _. later_side file xs vs c m.sounding k w m.voices times 0 j) (λ j _. later_side file xs vs c m.sounding k w m.voices times 1 j) m.woven z;
-        }
+-- ---- where pieces of n frames begin
+module _ (n k : ℕ) where
+  module _ (h : k < div_ceil n piece) where
+    pub piece_begins : k * piece < n
+    piece_begins = omega (arith, div_ceil_times n piece (omega arith))
 
-    module _ (h : n ≤ k) where
-      pub voices_end : w ≡ later_of file xs vs n c
-      voices_end = let q : k ≡ n = omega (arith, m.count) in m.voices ∙ ap (λ i. later_of file xs vs i c) q
+    pub piece_at : min n (k * piece) ≡ k * piece
+    piece_at = omega (arith, piece_begins)
 
-      pub woven_end : Woven (side_at file xs vs times 0 c) (side_at file xs vs times 1 c) 0 n out₀ out
-      woven_end = let q : k ≡ n = omega (arith, m.count) in subst (λ i. Woven (side_at file xs vs times 0 c) (side_at file xs vs times 1 c) 0 i out₀ out) q m.woven
+    pub piece_next : k * piece + min piece (n - k * piece) ≡ min n ((k + 1) * piece)
+    piece_next = omega (arith, piece_begins)
+
+  pub piece_end : div_ceil n piece ≤ k → min n (k * piece) ≡ n
+  piece_end h = omega (arith, div_ceil_times n piece (omega arith))

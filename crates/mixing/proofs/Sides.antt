@@ -25,7 +25,13 @@ use Rattle.voice.specs.Range.{greatest_given, half16, gives_range, LegalSides, s
 use Rattle.voice.specs.Frames.{steps_of, gives_at, side_of, sum_of, blank}
 use Rattle.voice.specs.Kept.{silent_steps, silent_gives, steps_volume}
 use Rattle.voice_runs.specs.Runs.{one_at}
-use Rattle.mixing.specs.Sides.{cut_of, extent_at, voice_in, Sounding, given_by, side_at, later_at, sided_at, sided_of, sounds_of, Next, Siding}
+use Rattle.mixing.specs.declared.side.Side.{Side}
+use Rattle.mixing.specs.declared.side.Side.TheVariants.{Left, Right}
+use Rattle.mixing.specs.Sides.{number_of, cut_of, extent_at, voice_in, Sounding, given_by, side_at, later_at, sided_at, sided_of, sounds_of, Next, Siding}
+
+pub number_few : (a : Side) → number_of a < 2
+number_few Left = omega arith
+number_few Right = omega arith
 
 -- ---- whether a channel sounds
 module _ (side j : ℕ) (v : Voice) (e : sounds_of side j v ≡ true) where
@@ -45,6 +51,16 @@ module _ (side j : ℕ) (v : Voice) (e : sounds_of side j v ≡ true) where
       go true true q z = absurd (subst T (sym z) tt)
       go true false q z = refl
       go false u q z = absurd (subst T (sym z) tt)
+
+-- what is next past voices that have moved was next before
+next_same : (vs w : List Voice) (f : ℕ → Voice) (side c i r : ℕ) → Parting f (voice_in vs) blank width w i → Next w side c i r → Next vs side c i r
+next_same vs w f side c i r m k =
+    record {
+      from = k.from;
+      most = k.most;
+      idle = λ j l h. subst (λ v. sounds_of side j v ≡ false) (m.rest j l) (k.idle j l h);
+      there = λ h. subst (λ v. sounds_of side r v ≡ true) (m.rest r k.from) (k.there h);
+    }
 
 module _ (file : List ℕ) (xs : List Extent) (vs : List Voice) (side : ℕ) where
   -- ---- a channel that does not
@@ -115,17 +131,15 @@ module _ (file : List ℕ) (xs : List Extent) (vs : List Voice) (side : ℕ) whe
         })
 
     -- the first that does
-    pub siding_first : (a b : ℕ) (v : Voice) (cells : List ℤ) → length vs ≡ width → c ≤ width → Next vs side c 0 a → a < c → Next vs side c (a + 1) b → v ≡ later_at file xs vs n a → Holds (one_at times (cut_of file (extent_at xs a)) (voice_in vs a)) n cells → Siding file xs vs times side c n (set vs a v) cells b
-    siding_first a b v cells l room m h p e z =
-        record {
-          few = p.most;
-          there = p.there;
-          voices =
-              voices_skip c (a + 1) b p n _
-              (part_again _ blank width vs (voice_in vs) a c v (voices_skip c 0 a m n vs (within_begin _ blank width vs l)) h room (e ∙ sided_is a (m.there h) n));
-          sums = λ j k. z j k ∙ sym (first_side j);
-        }
+    pub siding_first : (a b : ℕ) (v : Voice) (cells : List ℤ) → length vs ≡ width → c ≤ width → Next vs side c 0 a → a < c → Next (set vs a v) side c (a + 1) b → v ≡ later_at file xs vs n a → Holds (one_at times (cut_of file (extent_at xs a)) (voice_in vs a)) n cells → Siding file xs vs times side c n (set vs a v) cells b
+    siding_first a b v cells l room m h k e z = record { few = p.most; there = p.there; voices = voices_skip c (a + 1) b p n _ voices; sums = λ j k. z j k ∙ sym (first_side j) }
       where
+        voices : Parting (sided_at file xs vs n side) (voice_in vs) blank width (set vs a v) (a + 1)
+        voices = part_again _ blank width vs (voice_in vs) a c v (voices_skip c 0 a m n vs (within_begin _ blank width vs l)) h room (e ∙ sided_is a (m.there h) n)
+
+        p : Next vs side c (a + 1) b
+        p = next_same vs _ _ side c (a + 1) b voices k
+
         first_side : (k : ℕ) → side_at file xs vs times side b k ≡ one_at times (cut_of file (extent_at xs a)) (voice_in vs a) k
         first_side k =
             side_skip c (a + 1) b p times k
@@ -136,16 +150,16 @@ module _ (file : List ℕ) (xs : List Extent) (vs : List Voice) (side : ℕ) whe
 
     module _ (w : List Voice) (cells : List ℤ) (i : ℕ) (m : Siding file xs vs times side c n w cells i) where
       -- one more
-      pub siding_more : c ≤ width → i < c → (r : ℕ) (v : Voice) (further new : List ℤ) → Next vs side c (i + 1) r → v ≡ later_at file xs vs n i → Holds (one_at times (cut_of file (extent_at xs i)) (voice_in vs i)) n further → Holds (sum_at cells further) n new → Siding file xs vs times side c n (set w i v) new r
+      pub siding_more : c ≤ width → i < c → (r : ℕ) (v : Voice) (further new : List ℤ) → Next (set w i v) side c (i + 1) r → v ≡ later_at file xs vs n i → Holds (one_at times (cut_of file (extent_at xs i)) (voice_in vs i)) n further → Holds (sum_at cells further) n new → Siding file xs vs times side c n (set w i v) new r
       unfolding sum_at
-      siding_more room h r v further new p e z y =
-          record {
-            few = p.most;
-            there = p.there;
-            voices = voices_skip c (i + 1) r p n _ (part_again _ blank width w (voice_in vs) i c v m.voices h room (e ∙ sided_is i (m.there h) n));
-            sums = λ j k. y j k ∙ ap₂ ◌+ℤ◌ (m.sums j k) (z j k) ∙ sym (more_side j);
-          }
+      siding_more room h r v further new k e z y = record { few = p.most; there = p.there; voices = voices_skip c (i + 1) r p n _ voices; sums = λ j k. y j k ∙ ap₂ ◌+ℤ◌ (m.sums j k) (z j k) ∙ sym (more_side j) }
         where
+          voices : Parting (sided_at file xs vs n side) (voice_in vs) blank width (set w i v) (i + 1)
+          voices = part_again _ blank width w (voice_in vs) i c v m.voices h room (e ∙ sided_is i (m.there h) n)
+
+          p : Next vs side c (i + 1) r
+          p = next_same vs _ _ side c (i + 1) r voices k
+
           more_side : (k : ℕ) → side_at file xs vs times side r k ≡ side_at file xs vs times side i k +ℤ one_at times (cut_of file (extent_at xs i)) (voice_in vs i) k
           more_side k = side_skip c (i + 1) r p times k ∙ ap (λ y. side_at file xs vs times side y k) (add-one i) ∙ side_more i (m.there h) times k
 

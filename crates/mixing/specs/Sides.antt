@@ -17,6 +17,13 @@ use Rattle.voice.specs.Frames.{steps_of, gives_at, side_of, sum_of, blank}
 use Rattle.voice.specs.LegalFacts.{LegalSound}
 use Rattle.voice_runs.specs.declared.line.Pace.{Pace}
 use Rattle.voice_runs.specs.Runs.{Paced}
+use Rattle.mixing.specs.declared.side.Side.{Side}
+use Rattle.mixing.specs.declared.side.Side.TheVariants.{Left, Right}
+
+-- a side's number
+abbrev pub number_of : Side → ℕ
+number_of Left = 0
+number_of Right = 1
 
 -- ---- voices beside their samples' extents
 -- the sample of an extent in a file

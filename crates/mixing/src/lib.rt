@@ -5,6 +5,7 @@ ghost use Rattle.std.specs.Prelude.{◌≡◌, [], ◌++◌, ℕ, ◌*◌, ◌<�
 ghost use Rattle.laws.specs.Ranges.{every, within};
 ghost use Rattle.laws.specs.Each.{Filled};
 ghost use Rattle.common.specs.Limits.{width, sample_numbers};
+ghost use Rattle.common.specs.LimitFacts.{LegalPeriod};
 ghost use Rattle.reader.specs.File.{lent};
 ghost use Rattle.reader.specs.Samples.{no_extent};
 ghost use Rattle.reader.specs.Layouts.{LegalLayout};
@@ -12,14 +13,15 @@ ghost use Rattle.ticks.specs.Commands.{nothing};
 ghost use Rattle.voice.specs.Modules.{sample_with, samples_in};
 ghost use Rattle.voice.specs.Frames.{steps_of, scale_of, frame_numbers, blank, mixed, moved};
 ghost use Rattle.voice.specs.LegalFacts.{LegalSound, LoopInside, Ready};
-ghost use Rattle.mixing.specs.Sides.{mark_at, told_at, silent_at};
+ghost use Rattle.mixing.specs.Sides.{voice_in, Pacing, mark_at, told_at, silent_at};
 
-use crate::pieces::mix_pieces;
+use crate::side::Mix;
 use common::limits::{SAMPLE_NUMBERS, WIDTH};
 use reader::{Extent, Layout};
 use runs::FRAME_NUMBERS;
 use ticks::Command;
 use voice::Voice;
+use voice_runs::Pace;
 
 mod pieces;
 mod side;
@@ -28,33 +30,26 @@ mod side;
 const DOUBLED_TO: usize = 4;
 
 // What a side's sum is multiplied by.
+#[tactic(auto, unfolding(voice::specs::Frames::scale_of))]
 fn scale(channels: usize) -> u32
     ensures { result ≡ scale_of channels }
 {
-    if channels <= DOUBLED_TO {
-        return 2;
-    }
-    1
+    if channels <= DOUBLED_TO { 2 } else { 1 }
 }
 
 // The extents of the samples that the commands name.
 fn named(
     channels: usize,
-    extents: [Extent; SAMPLE_NUMBERS],
-    commands: [Command; WIDTH],
+    extents: &[Extent; SAMPLE_NUMBERS],
+    commands: &[Command; WIDTH],
 ) -> [Extent; WIDTH]
     requires channels_le_width { channels ≤ width }
-    requires by_index { (i : ℕ) → i < channels → (get_or commands i nothing).sample < sample_numbers }
-    ensures { Filled (mark_at extents commands) no_extent width result channels }
+    requires by_index { (i : ℕ) → i < channels → (get_or commands.now i nothing).sample < sample_numbers }
+    ensures { Filled (mark_at extents.now commands.now) no_extent width result channels }
 {
-    let none = extents[0];
-    let mut marks = [none; WIDTH];
-    let mut i = 0;
-    while i < channels {
-        let command = commands[i];
-        let k = command.sample as usize;
-        marks[i] = extents[k];
-        i += 1;
+    let mut marks = [extents[0]; WIDTH];
+    for i in 0..channels {
+        marks[i] = extents[usize::from(commands[i].sample)];
     }
     marks
 }
@@ -62,34 +57,41 @@ fn named(
 // The voices told their commands.
 fn tell(
     channels: usize,
-    extents: [Extent; WIDTH],
-    voices: [Voice; WIDTH],
-    commands: [Command; WIDTH],
-) -> [Voice; WIDTH]
+    extents: &[Extent; WIDTH],
+    commands: &[Command; WIDTH],
+    voices: &mut [Voice; WIDTH],
+)
     requires { channels ≤ width }
-    ensures { result ≡ within (told_at extents voices commands) blank channels width voices }
+    ensures { voices.new ≡ within (told_at extents.now voices.old commands.now) blank channels width voices.old }
 {
-    let mut w = voices;
-    let mut i = 0;
-    while i < channels {
-        w[i] = voices[i].told(commands[i], extents[i]);
-        i += 1;
+    for i in 0..channels {
+        voices[i] = voices[i].told(commands[i], extents[i]);
     }
-    w
 }
 
 // Whether every voice is silent.
-fn quiet(channels: usize, voices: [Voice; WIDTH]) -> bool
+fn quiet(channels: usize, voices: &[Voice; WIDTH]) -> bool
     requires { channels ≤ width }
-    ensures { result ≡ every (silent_at voices) channels }
+    ensures { result ≡ every (silent_at voices.now) channels }
 {
-    let mut quiet = true;
-    let mut i = 0;
-    while i < channels {
-        quiet = quiet & voices[i].silent();
-        i += 1;
+    voices[..channels].iter().all(|voice| voice.silent())
+}
+
+// The voices' paces.
+fn paces_of(channels: usize, voices: &[Voice; WIDTH]) -> [Pace; WIDTH]
+    requires channels_le_width { channels ≤ width }
+    requires by_index { (i : ℕ) → i < channels → LegalPeriod (voice_in voices.now i).period }
+    ensures { Pacing voices.now result channels }
+{
+    let none = Pace {
+        growth: 0,
+        inverse: 0,
+    };
+    let mut paces = [none; WIDTH];
+    for i in 0..channels {
+        paces[i] = voice_runs::pace(voices[i].period);
     }
-    quiet
+    paces
 }
 
 // A number of frames into the front of out, whose rest stays, and the voices after them.
@@ -97,7 +99,7 @@ pub fn mix(
     layout: Layout,
     file: &[u8],
     extents: [Extent; SAMPLE_NUMBERS],
-    voices: [Voice; WIDTH],
+    mut voices: [Voice; WIDTH],
     commands: [Command; WIDTH],
     frames: usize,
     out: &mut [i16],
@@ -109,14 +111,21 @@ pub fn mix(
     ensures mixed { out.new ≡ mixed layout.channels (samples_in (lent layout file.now) extents) voices commands frames ++ drop (frame_numbers * frames) out.old }
 {
     let channels = layout.channels;
-    let marks = named(channels, extents, commands);
-    let told = tell(channels, marks, voices, commands);
-    if quiet(channels, told) {
+    let marks = named(channels, &extents, &commands);
+    tell(channels, &marks, &commands, &mut voices);
+    if quiet(channels, &voices) {
         runs::clear(FRAME_NUMBERS * frames, out);
-        return told;
+        return voices;
     }
-    let times = scale(channels);
-    mix_pieces(channels, file, marks, told, times, frames, out)
+    let mix = Mix {
+        file,
+        extents: marks,
+        paces: paces_of(channels, &voices),
+        channels,
+        times: scale(channels),
+    };
+    mix.pieces(&mut voices, frames, out);
+    voices
 }
 
 // A voice after the next frames, which nobody hears.
@@ -134,7 +143,7 @@ pub fn pass(
     layout: Layout,
     file: &[u8],
     extents: [Extent; SAMPLE_NUMBERS],
-    voices: [Voice; WIDTH],
+    mut voices: [Voice; WIDTH],
     commands: [Command; WIDTH],
     frames: usize,
 ) -> [Voice; WIDTH]
@@ -142,16 +151,11 @@ pub fn pass(
     requires ready { Ready (lent layout file.now) extents voices commands }
     ensures { result ≡ moved layout.channels (samples_in (lent layout file.now) extents) voices commands frames }
 {
-    let mut w = voices;
-    let mut i = 0;
-    while i < layout.channels {
+    for i in 0..layout.channels {
         let command = commands[i];
-        let k = command.sample as usize;
-        let extent = extents[k];
-        let voice = w[i];
-        let told = voice.told(command, extent);
-        w[i] = pass_voice(extent, told, frames);
-        i += 1;
+        let extent = extents[usize::from(command.sample)];
+        let told = voices[i].told(command, extent);
+        voices[i] = pass_voice(extent, told, frames);
     }
-    w
+    voices
 }

@@ -1,148 +1,121 @@
 // A side of a piece: the first channel that sounds on it is spread into the side's cells, and each further one added to them.
-ghost use Rattle.std.specs.Prelude.{◌≡◌, ◌+◌, ◌<◌, ◌≤◌, length};
+ghost use Rattle.std.specs.Prelude.{◌≡◌, ◌<◌, ◌≤◌, get_or, unwrap_or, IfSome};
 ghost use Rattle.common.specs.Limits.{width};
+ghost use Rattle.common.specs.ByteLaws.{Bytes};
 ghost use Rattle.runs.specs.Cells.{Holds, Narrow};
 ghost use Rattle.voice.specs.Frames.{steps_of, side_of};
 ghost use Rattle.voice.specs.Range.{LegalSides};
-ghost use Rattle.voice_runs.specs.Runs.{one_at, piece, spare, Paced};
-ghost use Rattle.mixing.specs.Sides.{cut_of, Voiced, Sounding, Pacing, side_at, sided_of, sounds_of, Next, Siding};
+ghost use Rattle.voice_runs.specs.Runs.{one_at, piece, Paced};
+ghost use Rattle.mixing.specs.Sides.{number_of, cut_of, Voiced, extent_at, Sounding, no_pace, Pacing, side_at, sided_of, sounds_of, Next};
 
 use common::limits::WIDTH;
 use reader::Extent;
 use voice::Voice;
-use voice_runs::Pace;
+use voice_runs::{PIECE, Pace, SPARE};
 
-// The side that channel i, from 0, is on.
-fn side(i: usize) -> usize
-    requires { i < width }
-    ensures { result ≡ side_of i }
-{
-    (i + 1) / 2 % 2
+// The cells of a piece's side.
+pub const CELLS: usize = PIECE + SPARE;
+
+#[derive(Clone, Copy, PartialEq, Eq)]
+pub enum Side {
+    Left,
+    Right,
 }
 
-// Whether channel i, of this voice, sounds on a side.
-fn sounds(on: usize, i: usize, voice: Voice) -> bool
-    requires { i < width }
-    ensures { result ≡ sounds_of on i voice }
-{
-    if side(i) == on {
-        if voice.silent() {
-            return false;
+impl Side {
+    // The side that channel i, from 0, is on.
+    #[tactic(auto, unfolding(voice::specs::Frames::side_of))]
+    fn of(i: usize) -> Side
+        requires { i < width }
+        ensures { number_of result ≡ side_of i }
+    {
+        if (i + 1) / 2 % 2 == 0 {
+            Side::Left
+        } else {
+            Side::Right
         }
-        return true;
     }
-    false
-}
 
-// The first channel from one on that sounds on a side, or the count.
-fn next(channels: usize, voices: [Voice; WIDTH], on: usize, from: usize) -> usize
-    requires { (channels ≤ width) × (from ≤ channels) }
-    ensures { Next voices on channels from result }
-{
-    let mut i = from;
-    while i < channels {
-        if sounds(on, i, voices[i]) {
-            return i;
-        }
-        i += 1;
+    // Whether channel i, of this voice, sounds on the side.
+    fn sounds(self, i: usize, voice: Voice) -> bool
+        requires { i < width }
+        ensures { result ≡ sounds_of (number_of self) i voice }
+    {
+        Side::of(i) == self && !voice.silent()
     }
-    channels
 }
 
-// One channel's numbers, spread into cells, and its voice after them.
-fn sound(
-    file: &[u8],
-    extent: Extent,
-    voice: Voice,
-    pace: Pace,
-    times: u32,
-    frames: usize,
-    cells: &mut [i16],
-) -> Voice
-    requires voiced { Voiced file.now extent voice × (0 < extent.end) }
-    requires pace { Paced voice.period pace }
-    requires fits { (times ≤ 2) × (frames ≤ piece) × (frames + spare ≤ length cells.old) }
-    ensures moved { result ≡ steps_of (cut_of file.now extent) frames voice }
-    ensures numbers { Holds (one_at times (cut_of file.now extent) voice) frames cells.new }
-{
-    let from = extent.from;
-    let to = extent.to;
-    voice_runs::spread(&file[from..to], voice, extent, pace, times, frames, cells)
+// What voices are mixed from: for each channel its sample's extent in the file and its pace; and what a side's sums are multiplied by.
+#[derive(Drop)]
+pub struct Mix<'a> {
+    pub file: &'a [u8],
+    pub extents: [Extent; WIDTH],
+    pub paces: [Pace; WIDTH],
+    pub channels: usize,
+    pub times: u32,
+    ghost bytes: { Bytes file.now },
+    ghost few: { channels ≤ width },
+    ghost sides: { LegalSides channels times },
 }
 
-// A side begun: the voices after its first channel, and the next channel that sounds on it, or the count.
-#[derive(Clone, Copy)]
-struct Begun {
-    voices: [Voice; WIDTH],
-    next: usize,
-}
+impl Mix<'_> {
+    // The first channel from one on that sounds on a side.
+    fn next(&self, on: Side, from: usize, voices: &[Voice; WIDTH]) -> Option<usize>
+        requires { from ≤ self.now.channels }
+        ensures found { IfSome result (λ i. i < self.now.channels) }
+        ensures next { Next voices.now (number_of on) self.now.channels from (unwrap_or result self.now.channels) }
+    {
+        (from..self.channels).find(|&i| on.sounds(i, voices[i]))
+    }
 
-// The first channel that sounds on a side, spread into its cells; zeros if there is none.
-fn begin(
-    channels: usize,
-    file: &[u8],
-    extents: [Extent; WIDTH],
-    voices: [Voice; WIDTH],
-    paces: [Pace; WIDTH],
-    times: u32,
-    on: usize,
-    frames: usize,
-    cells: &mut [i16],
-) -> Begun
-    requires sounding { Sounding file.now extents voices channels }
-    requires paced { Pacing voices paces channels }
-    requires fits { (times ≤ 2) × (frames ≤ piece) × (frames + spare ≤ length cells.old) }
-    ensures begun { Siding file.now extents voices times on channels frames result.voices cells.new result.next }
-{
-    let a = next(channels, voices, on, 0);
-    if channels <= a {
-        runs::clear(frames, cells);
-        return Begun {
-            voices,
-            next: channels,
+    // Channel i's numbers, spread into cells, and its voice after them.
+    fn sound(&self, i: usize, voice: Voice, frames: usize, cells: &mut [i16; CELLS]) -> Voice
+        requires channel { i < self.now.channels }
+        requires voiced { Voiced self.now.file.now (extent_at self.now.extents i) voice × (0 < (extent_at self.now.extents i).end) }
+        requires pace { Paced voice.period (get_or self.now.paces i no_pace) }
+        requires short { frames ≤ piece }
+        ensures moved { result ≡ steps_of (cut_of self.now.file.now (extent_at self.now.extents i)) frames voice }
+        ensures numbers { Holds (one_at self.now.times (cut_of self.now.file.now (extent_at self.now.extents i)) voice) frames cells.new }
+    {
+        let extent = self.extents[i];
+        let bytes = &self.file[extent.from..extent.to];
+        voice_runs::spread(
+            bytes,
+            voice,
+            extent,
+            self.paces[i],
+            self.times,
+            frames,
+            cells,
+        )
+    }
+
+    // A side's numbers, in its cells, and its voices after them. A further channel's are spread into spare cells first.
+    pub fn side(
+        &self,
+        on: Side,
+        voices: &mut [Voice; WIDTH],
+        frames: usize,
+        cells: &mut [i16; CELLS],
+        further: &mut [i16; CELLS],
+    )
+        requires sounding { Sounding self.now.file.now self.now.extents voices.old self.now.channels }
+        requires paced { Pacing voices.old self.now.paces self.now.channels }
+        requires short { frames ≤ piece }
+        ensures moved { voices.new ≡ sided_of self.now.file.now self.now.extents voices.old frames (number_of on) self.now.channels }
+        ensures numbers { Holds (side_at self.now.file.now self.now.extents voices.old self.now.times (number_of on) self.now.channels) frames cells.new }
+        ensures narrow { Narrow cells.new frames }
+    {
+        let Some(first) = self.next(on, 0, voices) else {
+            runs::clear(frames, cells);
+            return;
         };
+        voices[first] = self.sound(first, voices[first], frames, cells);
+        let mut next = self.next(on, first + 1, voices);
+        while let Some(i) = next {
+            voices[i] = self.sound(i, voices[i], frames, further);
+            runs::scratch::add(further, frames, cells);
+            next = self.next(on, i + 1, voices);
+        }
     }
-    let mut w = voices;
-    w[a] = sound(file, extents[a], voices[a], paces[a], times, frames, cells);
-    Begun {
-        voices: w,
-        next: next(channels, voices, on, a + 1),
-    }
-}
-
-// A side's numbers, in its cells, and the voices after them. A further channel's are spread into spare cells first.
-pub fn mix_side(
-    channels: usize,
-    file: &[u8],
-    extents: [Extent; WIDTH],
-    voices: [Voice; WIDTH],
-    paces: [Pace; WIDTH],
-    times: u32,
-    on: usize,
-    frames: usize,
-    cells: &mut [i16],
-    further: &mut [i16],
-) -> [Voice; WIDTH]
-    requires sounding { Sounding file.now extents voices channels }
-    requires paced { Pacing voices paces channels }
-    requires sides { LegalSides channels times }
-    requires side { on < 2 }
-    requires fits { (frames ≤ piece) × (frames + spare ≤ length cells.old) × (frames + spare ≤ length further.old) }
-    ensures moved { result ≡ sided_of file.now extents voices frames on channels }
-    ensures numbers { Holds (side_at file.now extents voices times on channels) frames cells.new }
-    ensures narrow { Narrow cells.new frames }
-{
-    let begun = begin(
-        channels, file, extents, voices, paces, times, on, frames, cells,
-    );
-    let mut w = begun.voices;
-    let mut i = begun.next;
-    while i < channels {
-        w[i] = sound(
-            file, extents[i], voices[i], paces[i], times, frames, further,
-        );
-        runs::scratch::add(further, frames, cells);
-        i = next(channels, voices, on, i + 1);
-    }
-    w
 }

@@ -1,10 +1,11 @@
--- The loop tells each voice its command and moves it by all frames; past the count they stay.
-use Prim.Native.Nat.{◌-◌}
-use Rattle.mixing.proofs.Passing.{Passing}
+-- The channels so far are told and moved by all frames; the others stay.
+use Rattle.laws.specs.Each.{Parting}
+use Rattle.common.specs.Limits.{width}
+use Rattle.reader.specs.File.{lent}
+use Rattle.voice.specs.Modules.{samples_in}
+use Rattle.voice.specs.Frames.{blank, moved_at}
+use Rattle.mixing.specs.Sides.{voice_in}
 use Rattle.mixing.proofs.pass.Given as goal
 
 abbrev pub invariant-loop-i : goal.invariant-loop-i
-invariant-loop-i l = Passing l.layout l.file l.extents l.initial.w l.commands l.frames l.w l.i
-
-abbrev pub decreases-loop-i : goal.decreases-loop-i
-decreases-loop-i l = l.layout.channels - l.i
+invariant-loop-i l = Parting (moved_at (samples_in (lent l.fn.layout l.file) l.extents) l.fn.voices l.commands l.frames) (voice_in l.fn.voices) blank width l.voices l.i

@@ -1,13 +1,11 @@
--- The loop: whether every voice passed is silent.
-use borrow.Author.Rules.{rules}
-use Rattle.laws.specs.Every.{every_zero, every_step, every_end}
+-- All voices of the slice are silent, or one is not.
+use Rattle.std.specs.Prelude.{◌≡◌, true, false, take}
+use Rattle.std.proofs.Common.{rules, tests}
+use Rattle.std.proofs.lemmas.Iterator.{YieldsList-from_slice, cases_from_all}
+use Rattle.voice.specs.Voice.{silent_of}
+use Rattle.mixing.proofs.Telling.{quiet_by}
 use Rattle.mixing.proofs.quiet.Goals as goal
 
-pub loop-i-init : goal.loop-i-init
-loop-i-init c = search (every_zero, rules)
-
-pub loop-i-preserved : goal.loop-i-preserved
-loop-i-preserved c = search (every_step, rules)
-
 pub returns : goal.returns
-returns c = search (every_end, rules)
+returns c =
+    quiet_by _ _ _ (search rules) (cases_from_all _ _ _ (λ v. silent_of v ≡ true) (λ v. silent_of v ≡ false) c.all.ensures.ran (YieldsList-from_slice (take c.args.channels c.args.voices.now) (search rules)) (λ x q k. search (rules, tests)) (λ x q k. search (rules, tests)))

@@ -1,13 +1,10 @@
--- The loop tells each voice its command; past the count they stay.
-use borrow.Author.Rules.{rules}
-use Rattle.mixing.proofs.Telling.{telling_none, telling_more, telling_end}
+-- The channels so far are told; the others stay.
+use Rattle.laws.specs.Each.{part_end}
+use Rattle.mixing.proofs.Telling.{told_more}
 use Rattle.mixing.proofs.tell.Goals as goal
 
-pub loop-i-init : goal.loop-i-init
-loop-i-init c = search (telling_none, rules)
-
 pub loop-i-preserved : goal.loop-i-preserved
-loop-i-preserved c = search (telling_more, rules)
+loop-i-preserved c = told_more _ _ _ _ _ _ _ c.loop-i.invariant c.loop-i-test.true c.requires c.told.ensures
 
 pub returns : goal.returns
-returns c = search (telling_end, rules)
+returns c = part_end _ _ _ _ _ _ _ c.loop-i.invariant c.loop-i-test.false c.loop-i.auto.i-end
