@@ -7,6 +7,7 @@ ghost use Rattle.laws.specs.Each.{Filled};
 ghost use Rattle.common.specs.Limits.{width, sample_numbers};
 ghost use Rattle.common.specs.LimitFacts.{LegalPeriod};
 ghost use Rattle.reader.specs.File.{lent};
+ghost use Rattle.reader.specs.Modules.{as_module};
 ghost use Rattle.reader.specs.Samples.{no_extent};
 ghost use Rattle.reader.specs.Layouts.{LegalLayout};
 ghost use Rattle.ticks.specs.Commands.{nothing};
@@ -17,6 +18,7 @@ ghost use Rattle.mixing.specs.Sides.{voice_in, Pacing, mark_at, told_at, silent_
 
 use crate::side::Mix;
 use common::limits::{SAMPLE_NUMBERS, WIDTH};
+use reader::module::Module;
 use reader::{Extent, Layout};
 use runs::FRAME_NUMBERS;
 use ticks::Command;
@@ -128,6 +130,22 @@ pub fn mix(
     voices
 }
 
+// The same of a module, whose voices become those after the frames.
+pub fn mix_into(
+    m: &Module,
+    voices: &mut [Voice; WIDTH],
+    commands: &[Command; WIDTH],
+    frames: usize,
+    out: &mut [i16],
+)
+    requires ready { Ready (as_module m.now) m.now.extents voices.old commands.now }
+    requires fits { frame_numbers * frames ≤ length out.old }
+    ensures moved { voices.new ≡ moved m.now.layout.channels (samples_in (as_module m.now) m.now.extents) voices.old commands.now frames }
+    ensures mixed { out.new ≡ mixed m.now.layout.channels (samples_in (as_module m.now) m.now.extents) voices.old commands.now frames ++ drop (frame_numbers * frames) out.old }
+{
+    *voices = mix(m.layout, m.file, m.extents, *voices, *commands, frames, out);
+}
+
 // A voice after the next frames, which nobody hears.
 fn pass_voice(extent: Extent, voice: Voice, frames: usize) -> Voice
     requires looping { LoopInside (sample_with [] extent) }
@@ -158,4 +176,12 @@ pub fn pass(
         voices[i] = pass_voice(extent, told, frames);
     }
     voices
+}
+
+// The same of a module, whose voices become those after the frames.
+pub fn pass_by(m: &Module, voices: &mut [Voice; WIDTH], commands: &[Command; WIDTH], frames: usize)
+    requires ready { Ready (as_module m.now) m.now.extents voices.old commands.now }
+    ensures { voices.new ≡ moved m.now.layout.channels (samples_in (as_module m.now) m.now.extents) voices.old commands.now frames }
+{
+    *voices = pass(m.layout, m.file, m.extents, *voices, *commands, frames);
 }
