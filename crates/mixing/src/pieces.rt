@@ -2,7 +2,7 @@
 ghost use Rattle.std.specs.Prelude.{◌≡◌, ◌+◌, ◌*◌, ◌≤◌, length};
 ghost use Rattle.runs.specs.Cells.{stride, Woven};
 ghost use Rattle.voice_runs.specs.Runs.{piece};
-ghost use Rattle.mixing.specs.Sides.{Sounding, Pacing, side_at, later_of};
+ghost use Rattle.mixing.specs.Mixes.{Mixable, side_in, later_in};
 
 use crate::side::{CELLS, Mix, Side};
 use common::limits::WIDTH;
@@ -27,11 +27,10 @@ impl Mix<'_> {
         at: usize,
         out: &mut [i16],
     )
-        requires sounding { Sounding self.now.file.now self.now.extents voices.old self.now.channels }
-        requires paced { Pacing voices.old self.now.paces self.now.channels }
+        requires voices { Mixable self.now voices.old }
         requires fits { (frames ≤ piece) × (stride * (at + frames) ≤ length out.old) }
-        ensures moved { voices.new ≡ later_of self.now.file.now self.now.extents voices.old frames self.now.channels }
-        ensures woven { Woven (side_at self.now.file.now self.now.extents voices.old self.now.times 0 self.now.channels) (side_at self.now.file.now self.now.extents voices.old self.now.times 1 self.now.channels) at frames out.old out.new }
+        ensures moved { voices.new ≡ later_in self.now voices.old frames }
+        ensures woven { Woven (side_in self.now voices.old 0) (side_in self.now voices.old 1) at frames out.old out.new }
     {
         self.side(
             Side::Left,
@@ -52,11 +51,10 @@ impl Mix<'_> {
 
     // All frames into the front of out, and the voices after them.
     pub fn pieces(&self, voices: &mut [Voice; WIDTH], frames: usize, out: &mut [i16])
-        requires sounding { Sounding self.now.file.now self.now.extents voices.old self.now.channels }
-        requires paced { Pacing voices.old self.now.paces self.now.channels }
+        requires voices { Mixable self.now voices.old }
         requires fits { stride * frames ≤ length out.old }
-        ensures moved { voices.new ≡ later_of self.now.file.now self.now.extents voices.old frames self.now.channels }
-        ensures woven { Woven (side_at self.now.file.now self.now.extents voices.old self.now.times 0 self.now.channels) (side_at self.now.file.now self.now.extents voices.old self.now.times 1 self.now.channels) 0 frames out.old out.new }
+        ensures moved { voices.new ≡ later_in self.now voices.old frames }
+        ensures woven { Woven (side_in self.now voices.old 0) (side_in self.now voices.old 1) 0 frames out.old out.new }
     {
         let mut scratch = Scratch {
             left: [0; CELLS],

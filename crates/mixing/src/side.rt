@@ -6,7 +6,7 @@ ghost use Rattle.runs.specs.Cells.{Holds, Narrow};
 ghost use Rattle.voice.specs.Frames.{steps_of, side_of};
 ghost use Rattle.voice.specs.Range.{LegalSides};
 ghost use Rattle.voice_runs.specs.Runs.{one_at, piece, Paced};
-ghost use Rattle.mixing.specs.Sides.{number_of, cut_of, Voiced, extent_at, Sounding, no_pace, Pacing, side_at, sided_of, sounds_of, Next};
+ghost use Rattle.mixing.specs.Sides.{number_of, Voiced, extent_at, no_pace, sounds_of, Next};
 
 use common::limits::WIDTH;
 use reader::Extent;
@@ -59,6 +59,8 @@ pub struct Mix<'a> {
 }
 
 impl Mix<'_> {
+    ghost use Rattle.mixing.specs.Mixes.{Mixable, sample_of, side_in, sided_in};
+
     // The first channel from one on that sounds on a side.
     fn next(&self, on: Side, from: usize, voices: &[Voice; WIDTH]) -> Option<usize>
         requires { from ≤ self.now.channels }
@@ -74,8 +76,8 @@ impl Mix<'_> {
         requires voiced { Voiced self.now.file.now (extent_at self.now.extents i) voice × (0 < (extent_at self.now.extents i).end) }
         requires pace { Paced voice.period (get_or self.now.paces i no_pace) }
         requires short { frames ≤ piece }
-        ensures moved { result ≡ steps_of (cut_of self.now.file.now (extent_at self.now.extents i)) frames voice }
-        ensures numbers { Holds (one_at self.now.times (cut_of self.now.file.now (extent_at self.now.extents i)) voice) frames cells.new }
+        ensures moved { result ≡ steps_of (sample_of self.now i) frames voice }
+        ensures numbers { Holds (one_at self.now.times (sample_of self.now i) voice) frames cells.new }
     {
         let extent = self.extents[i];
         let bytes = &self.file[extent.from..extent.to];
@@ -99,11 +101,10 @@ impl Mix<'_> {
         cells: &mut [i16; CELLS],
         further: &mut [i16; CELLS],
     )
-        requires sounding { Sounding self.now.file.now self.now.extents voices.old self.now.channels }
-        requires paced { Pacing voices.old self.now.paces self.now.channels }
+        requires voices { Mixable self.now voices.old }
         requires short { frames ≤ piece }
-        ensures moved { voices.new ≡ sided_of self.now.file.now self.now.extents voices.old frames (number_of on) self.now.channels }
-        ensures numbers { Holds (side_at self.now.file.now self.now.extents voices.old self.now.times (number_of on) self.now.channels) frames cells.new }
+        ensures moved { voices.new ≡ sided_in self.now voices.old frames (number_of on) }
+        ensures numbers { Holds (side_in self.now voices.old (number_of on)) frames cells.new }
         ensures narrow { Narrow cells.new frames }
     {
         let Some(first) = self.next(on, 0, voices) else {

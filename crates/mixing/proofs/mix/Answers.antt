@@ -17,8 +17,8 @@ paces_of-requires-clause-by_index c = sounding_period _ _ _ _ (told_sounding _ _
 pub invariant_of-mix : goal.invariant_of-mix
 invariant_of-mix c = record { bytes = λ k. omega (arith, c.type_inv.file k); few = c.requires.layout.channels; sides = scale_legal _ _ _ _ _ c.requires.layout c.requires.ready _ c.scale.ensures }
 
-pub pieces-requires-clause-sounding : goal.pieces-requires-clause-sounding
-pieces-requires-clause-sounding c = told_sounding _ _ _ _ _ c.requires.layout c.requires.ready _ _ c.named-marks.ensures c.tell.ensures
+pub pieces-requires-clause-voices : goal.pieces-requires-clause-voices
+pieces-requires-clause-voices c = record { paced = c.paces_of.ensures; sounding = told_sounding _ _ _ _ _ c.requires.layout c.requires.ready _ _ c.named-marks.ensures c.tell.ensures }
 
 pub returns-clause-moved : goal.returns-clause-moved
 returns-clause-moved c = pieces_moved _ _ _ _ _ c.requires.layout c.requires.ready _ _ c.named-marks.ensures c.tell.ensures _ _ c.pieces.ensures.moved

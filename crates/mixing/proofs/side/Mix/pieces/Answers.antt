@@ -6,11 +6,10 @@ use Rattle.mixing.proofs.side.Mix.pieces.Goals as goal
 pub loop-k-init : goal.loop-k-init
 loop-k-init c = piecing_none _ _ _ _ _ _ _ (omega arith) c.told-voices
 
-pub piece-requires-clause-sounding : goal.piece-requires-clause-sounding
-piece-requires-clause-sounding c = piecing_sounding c.requires.sounding c.loop-k.invariant
-
-pub piece-requires-clause-paced : goal.piece-requires-clause-paced
-piece-requires-clause-paced c = piecing_pacing c.requires.sounding c.loop-k.invariant _ c.requires.paced
+pub piece-requires-clause-voices : goal.piece-requires-clause-voices
+piece-requires-clause-voices c =
+    let s = c.requires.voices.sounding in
+    record { sounding = piecing_sounding s c.loop-k.invariant; paced = piecing_pacing s c.loop-k.invariant _ c.requires.voices.paced }
 
 pub loop-k-preserved : goal.loop-k-preserved
-loop-k-preserved c = piecing_more c.requires.sounding c.loop-k.invariant _ _ _ _ _ (omega (arith, piece_at c.args.frames c.loop-k.k)) (omega (arith, piece_next c.args.frames c.loop-k.k)) c.piece.ensures.moved c.piece.ensures.woven
+loop-k-preserved c = piecing_more c.requires.voices.sounding c.loop-k.invariant _ _ _ _ _ (omega (arith, piece_at c.args.frames c.loop-k.k)) (omega (arith, piece_next c.args.frames c.loop-k.k)) c.piece.ensures.moved c.piece.ensures.woven

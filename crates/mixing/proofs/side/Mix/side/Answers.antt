@@ -20,30 +20,30 @@ pub returns-in_default-clause-numbers : goal.returns-in_default-clause-numbers
 returns-in_default-clause-numbers c = siding_sums _ _ _ _ _ _ _ _ _ _ (none c) (le_refl _)
 
 pub sound-requires-clause-voiced : goal.sound-requires-clause-voiced
-sound-requires-clause-voiced c = voiced_there _ _ _ _ _ _ c.requires.sounding c.in-Some.ensures.found (c.in-Some.ensures.next.there c.in-Some.ensures.found)
+sound-requires-clause-voiced c = voiced_there _ _ _ _ _ _ c.requires.voices.sounding c.in-Some.ensures.found (c.in-Some.ensures.next.there c.in-Some.ensures.found)
 
 pub loop-next-init : goal.loop-next-init
 loop-next-init c =
     let first = c.in-Some.ensures in
     record {
       found = c.next-next.ensures.found;
-      siding = siding_first _ _ _ _ _ _ _ _ _ _ _ c.told-voices c.requires.sounding.few first.next first.found c.next-next.ensures.next c.sound.ensures.moved c.sound.ensures.numbers;
+      siding = siding_first _ _ _ _ _ _ _ _ _ _ _ c.told-voices c.requires.voices.sounding.few first.next first.found c.next-next.ensures.next c.sound.ensures.moved c.sound.ensures.numbers;
     }
 
 pub sound-requires-in-Some-next-clause-voiced : goal.sound-requires-in-Some-next-clause-voiced
-sound-requires-in-Some-next-clause-voiced c = let m = rw c.in-Some-next.is at c.loop-next.invariant in further_voiced m.siding c.requires.sounding m.found
+sound-requires-in-Some-next-clause-voiced c = let m = rw c.in-Some-next.is at c.loop-next.invariant in further_voiced m.siding c.requires.voices.sounding m.found
 
 pub add-requires-clause-room : goal.add-requires-clause-room
 add-requires-clause-room c =
     let m = rw c.in-Some-next.is at c.loop-next.invariant in
-    further_roomy m.siding c.requires.sounding m.found _ c.sound-in-Some-next.ensures.numbers c.args.self.now.sides c.args.self.now.bytes
+    further_roomy m.siding c.requires.voices.sounding m.found _ c.sound-in-Some-next.ensures.numbers c.args.self.now.sides c.args.self.now.bytes
 
 pub loop-next-preserved : goal.loop-next-preserved
 loop-next-preserved c =
     let m = rw c.in-Some-next.is at c.loop-next.invariant in
     record {
       found = c.next-next-in-Some-next.ensures.found;
-      siding = further_more m.siding c.requires.sounding m.found _ c.sound-in-Some-next.ensures.numbers _ _ _ c.next-next-in-Some-next.ensures.next c.sound-in-Some-next.ensures.moved c.add.ensures.sums;
+      siding = further_more m.siding c.requires.voices.sounding m.found _ c.sound-in-Some-next.ensures.numbers _ _ _ c.next-next-in-Some-next.ensures.next c.sound-in-Some-next.ensures.moved c.add.ensures.sums;
     }
 
 pub returns-clause-moved : goal.returns-clause-moved
@@ -52,4 +52,4 @@ returns-clause-moved c = let m = rw c.in_default-next.is at c.loop-next.invarian
 pub returns-clause-narrow : goal.returns-clause-narrow
 returns-clause-narrow c =
     let m = rw c.in_default-next.is at c.loop-next.invariant in
-    siding_narrow _ _ _ _ _ _ _ _ _ _ m.siding c.requires.sounding c.args.self.now.sides c.args.self.now.bytes (number_few c.args.on) (le_refl _)
+    siding_narrow _ _ _ _ _ _ _ _ _ _ m.siding c.requires.voices.sounding c.args.self.now.sides c.args.self.now.bytes (number_few c.args.on) (le_refl _)
