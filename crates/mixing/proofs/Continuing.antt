@@ -4,7 +4,7 @@ use mathlib.Core.Path.{◌≡◌, ap, ◌∙◌}
 use mathlib.Core.List.{List}
 use Prim.Native.Nat.{ℕ, ◌+◌, ◌<◌}
 use native.Mathlib.Nat.{le_refl}
-use lib.ListN.{get_or, set}
+use lib.ListN.{set}
 use lib.IntN.{ℤ}
 use Rattle.common.specs.ByteLaws.{Bytes}
 use Rattle.runs.specs.Cells.{Holds, sum_at, Roomy}
@@ -12,9 +12,8 @@ use Rattle.reader.specs.declared.Extent.{Extent}
 use Rattle.voice.specs.declared.Voice.{Voice}
 use Rattle.voice.specs.Frames.{steps_of}
 use Rattle.voice.specs.Range.{LegalSides}
-use Rattle.voice_runs.specs.declared.line.Pace.{Pace}
-use Rattle.voice_runs.specs.Runs.{one_at, Paced}
-use Rattle.mixing.specs.Sides.{cut_of, Voiced, extent_at, voice_in, Sounding, no_pace, Pacing, Next, Siding}
+use Rattle.voice_runs.specs.Runs.{one_at}
+use Rattle.mixing.specs.Sides.{cut_of, Voiced, extent_at, voice_in, Sounding, Next, Siding}
 use Rattle.mixing.proofs.Sides.{siding_more, siding_roomy}
 use Rattle.mixing.proofs.Seeking.{voiced_there}
 
@@ -24,9 +23,6 @@ module _ {file : List ℕ} {xs : List Extent} {vs : List Voice} {times side c n 
 
   pub further_voiced : Voiced file (extent_at xs i) (voice_in w i) × (0 < (extent_at xs i).end)
   further_voiced = rw same (voiced_there file xs vs c side i s h (m.there h))
-
-  pub further_paced : (ps : List Pace) → Pacing vs ps c → Paced (voice_in w i).period (get_or ps i no_pace)
-  further_paced ps p = rw same (p.at i h)
 
   module _ (new : List ℤ) (z : Holds (one_at times (cut_of file (extent_at xs i)) (voice_in w i)) n new) where
     numbers : Holds (one_at times (cut_of file (extent_at xs i)) (voice_in vs i)) n new

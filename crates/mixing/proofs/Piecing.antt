@@ -3,7 +3,7 @@
 use mathlib.Core.Path.{◌≡◌, refl, sym, ap, ap₂, subst, ◌∙◌}
 use mathlib.Core.Bool.{Bool, true, false, cond}
 use mathlib.Core.List.{List}
-use Prim.Native.Nat.{ℕ, zero, suc, ◌+◌, ◌-◌, ◌*◌, ◌≤◌, ◌<◌}
+use Prim.Native.Nat.{ℕ, zero, suc, ◌+◌, ◌-◌, ◌*◌, ◌<◌}
 use native.Mathlib.Nat.{add_comm}
 use native.Mathlib.Omega.{arith}
 use borrow.Author.Tests.{eqb-true, ne_eqb, eq-eqb}
@@ -111,10 +111,10 @@ module _ (file : List ℕ) (xs : List Extent) (vs : List Voice) (c : ℕ) (s : S
     unfolding later_of
     later_is = within_is (later_at file xs vs k) c vs w e s.few
 
-    pub later_sounding : Sounding file xs w c
+    later_sounding : Sounding file xs w c
     later_sounding = record { few = s.few; at = λ i h. rw (later_is i h) (later_voiced file xs vs k i (s.at i h)) }
 
-    pub later_pacing : (ps : List Pace) → Pacing vs ps c → Pacing w ps c
+    later_pacing : (ps : List Pace) → Pacing vs ps c → Pacing w ps c
     later_pacing ps m = record { at = λ i h. rw (later_is i h) (later_paced file xs vs k i (get_or ps i no_pace) (m.at i h)) }
 
     further_on : (n i : ℕ) → i < c → later_at file xs w n i ≡ later_at file xs vs (k + n) i
@@ -157,16 +157,12 @@ module _ {file : List ℕ} {xs : List Extent} {vs : List Voice} {times c : ℕ} 
       }
 
 -- ---- where pieces of n frames begin
-module _ (n k : ℕ) where
-  module _ (h : k < div_ceil n piece) where
-    pub piece_begins : k * piece < n
-    piece_begins = omega (arith, div_ceil_times n piece (omega arith))
+module _ (n k : ℕ) (h : k < div_ceil n piece) where
+  piece_begins : k * piece < n
+  piece_begins = omega (arith, div_ceil_times n piece (omega arith))
 
-    pub piece_at : min n (k * piece) ≡ k * piece
-    piece_at = omega (arith, piece_begins)
+  pub piece_at : min n (k * piece) ≡ k * piece
+  piece_at = omega (arith, piece_begins)
 
-    pub piece_next : k * piece + min piece (n - k * piece) ≡ min n ((k + 1) * piece)
-    piece_next = omega (arith, piece_begins)
-
-  pub piece_end : div_ceil n piece ≤ k → min n (k * piece) ≡ n
-  piece_end h = omega (arith, div_ceil_times n piece (omega arith))
+  pub piece_next : k * piece + min piece (n - k * piece) ≡ min n ((k + 1) * piece)
+  piece_next = omega (arith, piece_begins)

@@ -3,12 +3,11 @@
 use mathlib.Core.Path.{◌≡◌}
 use mathlib.Core.Bool.{true, false}
 use mathlib.Core.List.{List}
-use Prim.Native.Nat.{ℕ, ◌-◌, ◌≤◌, ◌<◌}
+use Prim.Native.Nat.{ℕ, ◌≤◌, ◌<◌}
 use native.Mathlib.Nat.{le_refl}
 use native.Mathlib.Omega.{arith}
 use Rattle.std.specs.Prelude.{Option, None, Some, unwrap_or}
 use Rattle.std.specs.Option.{MatchOption}
-use lib.ListN.{length, take, drop, length-take, length-drop}
 use Rattle.reader.specs.declared.Extent.{Extent}
 use Rattle.voice.specs.declared.Voice.{Voice}
 use Rattle.voice.specs.LegalFacts.{LoopInside}
@@ -21,16 +20,8 @@ pub seek_next : (vs : List Voice) (on c from : ℕ) (r : Option ℕ) → from �
 seek_next vs on c from None h m = record { from = h; most = le_refl c; idle = m; there = λ k. absurd (omega arith) }
 seek_next vs on c from (Some i) h m = record { from = m.0; most = omega (arith, m.1); idle = m.3; there = λ _. m.2 }
 
--- ---- a channel's part of the file
-module _ (file : List ℕ) (x : Extent) (v : Voice) (m : Voiced file x v) where
-  pub voiced_loop : LoopInside (cut_of file x)
-  voiced_loop = record { loop = m.loop }
-
-  pub voiced_whole : x.end ≤ length (take (x.to - x.from) (drop x.from file))
-  voiced_whole = simp (length-take, length-drop) (omega (arith, m.whole, m.inside, m.order))
-
-  pub voiced_some : 0 < x.end → 0 < length (take (x.to - x.from) (drop x.from file))
-  voiced_some h = omega (arith, voiced_whole)
+pub voiced_loop : (file : List ℕ) (x : Extent) (v : Voice) → Voiced file x v → LoopInside (cut_of file x)
+voiced_loop file x v m = record { loop = m.loop }
 
 -- a channel that sounds
 pub voiced_there : (file : List ℕ) (xs : List Extent) (vs : List Voice) (c side i : ℕ) → Sounding file xs vs c → i < c → sounds_of side i (voice_in vs i) ≡ true → Voiced file (extent_at xs i) (voice_in vs i) × (0 < (extent_at xs i).end)

@@ -35,7 +35,7 @@ number_few Right = omega arith
 
 -- ---- whether a channel sounds
 module _ (side j : ℕ) (v : Voice) (e : sounds_of side j v ≡ true) where
-  pub sounds_on : side_of j ≡ side
+  sounds_on : side_of j ≡ side
   unfolding sounds_of
   sounds_on = go (eqb (side_of j) side) refl e
     where
