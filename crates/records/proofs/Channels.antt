@@ -1,27 +1,32 @@
--- Laws of the loops over the channels in use, the first c: the mask, the bytes' number, and the bytes.
+-- Laws of the channels in use, the first c: the mask, the bytes' number, and the bytes by the mask.
 -- Assumes nothing.
 use Prim.Native.Nat.{ℕ, suc, ◌+◌, ◌*◌, ◌-◌, ◌/◌, ◌%◌, ◌^◌, ◌≤◌, ◌<◌}
-use mathlib.Core.Path.{◌≡◌, refl, ap, ◌∙◌}
-use mathlib.Core.Bool.{Bool, true, false}
-use mathlib.Core.List.{List, [], ◌∷◌, ◌++◌}
+use mathlib.Core.Path.{◌≡◌, refl, sym, ap, ◌∙◌}
+use mathlib.Core.Bool.{Bool, true, false, cond}
+use mathlib.Core.List.{List, [], ◌∷◌, ◌++◌, append_assoc}
 use native.Mathlib.Omega.{arith}
 use native.Mathlib.Numerals.{add-one}
 use native.Mathlib.Nat.{lt_of_lt_of_le, pow-suc}
 use lib.ListN.{length, get_or, take, drop, drop_of_length-le, length-take, length-drop, length-append}
-use lib.Seq.{drop-cons, get_or-take, sets, length-sets}
+use lib.Seq.{drop-cons, get_or-take, sets, sets-eq, length-sets}
 use lib.Pow.{pow_pos, pow_mono}
-use borrow.Author.Tests.{eq-eqb, ne_eqb}
+use borrow.Rule.Slice.PartMut.{post_of, Post-is}
+use lib.Count.{ones_step}
+use Rattle.std.specs.Int.{from_bool}
+use Rattle.std.specs.Int.RustNames.{count_ones}
 use Rattle.laws.specs.Positions.{sets-append}
 use Rattle.common.specs.Limits.{width}
 use Rattle.common.specs.Bytes.{bit}
 use Rattle.ticks.specs.declared.Command.{Command}
 use Rattle.common.specs.ByteLaws.{bit_most}
 use Rattle.ticks.specs.Commands.{nothing}
-use Rattle.ticks.specs.Legal.{Spellable}
-use Rattle.records.specs.LegalLaws.{AllSpellable}
 use Rattle.records.specs.Format.{body_bytes, changed, mask, command_bytes, channel_bytes, channels_bytes}
-use Rattle.records.specs.Length.{channel_most}
-use Rattle.records.specs.Marked.{bit_bytes, marked_bytes}
+use Rattle.records.specs.Marked.{bit_bytes, marked_bytes, half}
+
+-- ---- a flag as a number
+pub from_bool_bit : (b : Bool) → from_bool b ≡ bit b
+from_bool_bit true = refl
+from_bool_bit false = refl
 
 -- ---- the registers in use
 used_at : (rs : List Command) (c k : ℕ) → k < c → c ≤ length rs → drop k (take c rs) ≡ get_or rs k nothing ∷ drop (suc k) (take c rs)
@@ -61,14 +66,14 @@ module _ (rs cs : List Command) (c : ℕ) where
     masked_small h =
         rw w.is (lt_of_lt_of_le (mask_below (drop k (take c rs)) (drop k cs)) (pow_mono {j = 7} (omega (arith, w.count, length-drop k (take c rs), length-take c rs))))
 
-    pub masked_more : (n : ℕ) (b : Bool) → 0 < k → length rs ≡ width → length cs ≡ width → b ≡ changed (get_or rs (k - 1) nothing) (get_or cs (k - 1) nothing) → n ≡ bit b + 2 * m
-        → Masked rs cs c n (k - 1)
+    pub masked_more : (n : ℕ) (b : Bool) → 0 < k → length rs ≡ width → length cs ≡ width → b ≡ changed (get_or rs (k - 1) nothing) (get_or cs (k - 1) nothing) → n ≡ from_bool b
+        → Masked rs cs c (2 * m + n) (k - 1)
     masked_more n b h f g e q =
         let s : suc (k - 1) ≡ k = omega arith in
         record {
           count = w.count;
           most = omega (arith, w.most);
-          is = rw (mask_at rs cs c (k - 1) (omega (arith, w.most)) (omega (arith, w.count)) (omega (arith, w.most, w.count)), s, q, e, w.is);
+          is = rw (mask_at rs cs c (k - 1) (omega (arith, w.most)) (omega (arith, w.count)) (omega (arith, w.most, w.count)), s, q, from_bool_bit b, e, ← w.is) (omega arith);
         }
 
     pub masked_all : k ≤ 0 → m ≡ mask (take c rs) cs
@@ -76,138 +81,87 @@ module _ (rs cs : List Command) (c : ℕ) where
         let z : k ≡ 0 = omega arith in
         rw z at w.is
 
--- ---- what a channel adds to a record
-module _ (r c : Command) (b : Bool) (e : b ≡ changed r c) where
-  pub channel_long : b ≡ true → body_bytes ≡ length (channel_bytes r c)
-  unfolding channel_bytes command_bytes
-  channel_long h = rw (← e, h)
+-- ---- how many bytes the channels add: those of the mask's bits
+ones_more : (b : Bool) (m : ℕ) → count_ones (bit b + 2 * m) ≡ bit b + count_ones m
+ones_more b m = ones_step (bit b + 2 * m) ∙ rw (half b m) (ap (λ (n : ℕ). n + count_ones m) (low b))
+  where
+    low : (b : Bool) → (bit b + 2 * m) % 2 ≡ bit b
+    low true = omega arith
+    low false = omega arith
 
-  pub channel_empty : b ≡ false → 0 ≡ length (channel_bytes r c)
-  unfolding channel_bytes
-  channel_empty h = rw (← e, h)
+bytes_long : (b : Bool) (c : Command) → length (cond b (command_bytes c) []) ≡ body_bytes * bit b
+unfolding command_bytes
+bytes_long true c = refl
+bytes_long false c = refl
 
--- ---- what a channel adds whose bit is the lowest of m
-module _ (m : ℕ) (c : Command) (at : ℕ) where
-  bit_none : m % 2 ≡ 0 → bit_bytes m c ≡ []
-  unfolding bit_bytes
-  bit_none h = rw (eq-eqb (m % 2) 0 h)
+pub long_by_mask : (rs cs : List Command) → length (channels_bytes rs cs) ≡ body_bytes * count_ones (mask rs cs)
+unfolding channels_bytes channel_bytes mask count_ones
+long_by_mask [] cs = refl
+long_by_mask (r ∷ rs) [] = refl
+long_by_mask (r ∷ rs) (c ∷ cs) =
+    rw ones_more (omega (arith, length-append (channel_bytes r c) (channels_bytes rs cs), bytes_long (changed r c) c, long_by_mask rs cs))
 
-  bit_some : (m % 2 ≡ 0 → ⊥) → bit_bytes m c ≡ command_bytes c
-  unfolding bit_bytes
-  bit_some h = rw (ne_eqb (m % 2) 0 h)
-
-  pub put_none_next : m % 2 ≡ 0 → at ≡ at + length (bit_bytes m c)
-  put_none_next h = omega (arith, ap length (bit_none h))
-
-  pub put_some_next : (m % 2 ≡ 0 → ⊥) → at + body_bytes ≡ at + length (bit_bytes m c)
-  unfolding command_bytes
-  put_some_next h = omega (arith, ap length (bit_some h))
-
-  module _ (room room' : List ℕ) where
-    pub put_none : m % 2 ≡ 0 → room ≡ sets room at (bit_bytes m c)
-    put_none h = rw (bit_none h)
-
-    pub put_some_room : (m % 2 ≡ 0 → ⊥) → at + length (bit_bytes m c) ≤ length room → at + body_bytes ≤ length room
-    put_some_room h f = rw (put_some_next h) f
-
-    pub put_some : (m % 2 ≡ 0 → ⊥) → room' ≡ sets room at (command_bytes c) → room' ≡ sets room at (bit_bytes m c)
-    put_some h q = rw (bit_some h) q
-
--- ---- all channels in use, from the first to the last
-module _ (rs cs : List Command) (c : ℕ) where
-  -- the bytes of channel k, and of those from k on
-  abbrev own : ℕ → List ℕ
-  own k = channel_bytes (get_or rs k nothing) (get_or cs k nothing)
-
-  abbrev left : ℕ → List ℕ
-  left k = channels_bytes (drop k (take c rs)) (drop k cs)
-
-  module _ (h : c ≤ width) (f : length rs ≡ width) (g : length cs ≡ width) (k : ℕ) (l : k < c) where
-    left_at : left k ≡ own k ++ left (k + 1)
-    unfolding channels_bytes
-    left_at = rw (add-one, used_at rs c k l (omega arith), drop-cons cs k nothing (omega arith))
-
-    left_long : length (left k) ≡ length (own k) + length (left (k + 1))
-    left_long = ap length left_at ∙ length-append (own k) (left (k + 1))
-
-  left_none : (k : ℕ) → c ≤ k → left k ≡ []
-  unfolding channels_bytes
-  left_none k h = rw (used_none rs c k h)
-
--- n bytes, with those that are left from channel k on, are the whole
-pub record Measured (rs cs : List Command) (c n k : ℕ) : Type 0 where
-  pub count : c ≤ width
-  pub most : k ≤ c
-  pub all : n + length (channels_bytes (drop k (take c rs)) (drop k cs)) ≡ length (channels_bytes (take c rs) cs)
-  pub small : n ≤ body_bytes * k
-
-module _ (rs cs : List Command) (c : ℕ) where
-  pub measured_none : c ≤ width → Measured rs cs c 0 0
-  measured_none h = record { count = h; most = omega arith; all = omega arith; small = omega arith }
-
-  module _ (n k : ℕ) (w : Measured rs cs c n k) where
-    pub measured_more : (l : ℕ) → k < c → length rs ≡ width → length cs ≡ width → l ≡ length (channel_bytes (get_or rs k nothing) (get_or cs k nothing)) → Measured rs cs c (n + l) (k + 1)
-    measured_more l h f g e =
-        record {
-          count = w.count;
-          most = omega arith;
-          all = omega (arith, w.all, left_long rs cs c w.count f g k h);
-          small = omega (arith, w.small, channel_most (get_or rs k nothing) (get_or cs k nothing));
-        }
-
-    pub measured_all : c ≤ k → n ≡ length (channels_bytes (take c rs) cs)
-    measured_all h = omega (arith, w.all, ap length (left_none rs cs c k h))
-
-    pub measured_few : n ≤ body_bytes * width
-    measured_few = omega (arith, w.count, w.most, w.small)
+-- ---- a command's bytes as a part of the room
+pub put_part : (room : List ℕ) (at : ℕ) (xs ys : List ℕ) → at + body_bytes ≤ length room → length xs ≡ body_bytes → ys ≡ xs → take at room ++ (ys ++ post_of at (at + body_bytes - at) room) ≡ sets room at xs
+put_part room at xs ys h l e =
+    let rest : post_of at (at + body_bytes - at) room ≡ drop (at + length xs) room = Post-is at (at + body_bytes) room (omega arith) ∙ ap (λ (n : ℕ). drop n room) (omega arith) in
+    rw (e, rest, sets-eq xs room at (omega arith)) (sym (append_assoc (take at room) xs (drop (at + length xs) room)))
 
 -- ---- the bytes, by the mask
-pub spellable_at : (cs : List Command) (c k : ℕ) → AllSpellable c cs → k < c → Spellable (get_or cs k nothing)
-spellable_at cs c k s h = s k h
-
 -- what is written up to p, with what the bits left in m say from channel k on, is the whole
-pub record Written (cs : List Command) (c m₀ : ℕ) (room₀ : List ℕ) (p₀ : ℕ) (room : List ℕ) (p m k : ℕ) : Type 0 where
-  pub count : c ≤ width
-  pub most : k ≤ c
+pub record Written (cs : List Command) (m₀ : ℕ) (room₀ : List ℕ) (p₀ : ℕ) (room : List ℕ) (p m k : ℕ) : Type 0 where
   pub len : length room ≡ length room₀
-  pub place : p + length (marked_bytes m (drop k (take c cs))) ≡ p₀ + length (marked_bytes m₀ (take c cs))
-  pub whole : sets room p (marked_bytes m (drop k (take c cs))) ≡ sets room₀ p₀ (marked_bytes m₀ (take c cs))
+  pub place : p + length (marked_bytes m (drop k cs)) ≡ p₀ + length (marked_bytes m₀ cs)
+  pub whole : sets room p (marked_bytes m (drop k cs)) ≡ sets room₀ p₀ (marked_bytes m₀ cs)
 
-module _ (cs : List Command) (c m₀ : ℕ) (room₀ : List ℕ) (p₀ : ℕ) where
-  pub written_none : c ≤ width → Written cs c m₀ room₀ p₀ room₀ p₀ m₀ 0
-  written_none h = record { count = h; most = omega arith; len = refl; place = refl; whole = refl }
+module _ (cs : List Command) (m₀ : ℕ) (room₀ : List ℕ) (p₀ : ℕ) where
+  pub written_none : Written cs m₀ room₀ p₀ room₀ p₀ m₀ 0
+  written_none = record { len = refl; place = refl; whole = refl }
 
-  module _ (room : List ℕ) (p m k : ℕ) (w : Written cs c m₀ room₀ p₀ room p m k) where
-    module _ (h : k < c) (g : length cs ≡ width) where
-      marked_at : marked_bytes m (drop k (take c cs)) ≡ bit_bytes m (get_or cs k nothing) ++ marked_bytes (m / 2) (drop (k + 1) (take c cs))
+  module _ (room : List ℕ) (p m k : ℕ) (w : Written cs m₀ room₀ p₀ room p m k) where
+    module _ (h : k < length cs) where
+      marked_at : marked_bytes m (drop k cs) ≡ bit_bytes m (get_or cs k nothing) ++ marked_bytes (m / 2) (drop (k + 1) cs)
       unfolding marked_bytes
-      marked_at = rw (add-one, used_at cs c k h (omega (arith, w.count)))
+      marked_at = rw (add-one, drop-cons cs k nothing h)
 
-      marked_long : length (marked_bytes m (drop k (take c cs))) ≡ length (bit_bytes m (get_or cs k nothing)) + length (marked_bytes (m / 2) (drop (k + 1) (take c cs)))
-      marked_long = ap length marked_at ∙ length-append (bit_bytes m (get_or cs k nothing)) (marked_bytes (m / 2) (drop (k + 1) (take c cs)))
+      marked_long : length (marked_bytes m (drop k cs)) ≡ length (bit_bytes m (get_or cs k nothing)) + length (marked_bytes (m / 2) (drop (k + 1) cs))
+      marked_long = ap length marked_at ∙ length-append (bit_bytes m (get_or cs k nothing)) (marked_bytes (m / 2) (drop (k + 1) cs))
 
-      pub written_room : p₀ + length (marked_bytes m₀ (take c cs)) ≤ length room₀ → p + length (bit_bytes m (get_or cs k nothing)) ≤ length room
-      written_room l = omega (arith, w.place, w.len, marked_long)
+      bit_some : m % 2 ≡ 1 → bit_bytes m (get_or cs k nothing) ≡ command_bytes (get_or cs k nothing)
+      unfolding bit_bytes
+      bit_some e = rw e
 
-      pub written_more : (room' : List ℕ) (p' : ℕ) → p' ≡ p + length (bit_bytes m (get_or cs k nothing)) → room' ≡ sets room p (bit_bytes m (get_or cs k nothing))
-          → Written cs c m₀ room₀ p₀ room' p' (m / 2) (k + 1)
-      written_more room' p' n o =
+      bit_none : (m % 2 ≡ 1 → ⊥) → bit_bytes m (get_or cs k nothing) ≡ []
+      unfolding bit_bytes
+      bit_none n = let e : m % 2 ≡ 0 = omega arith in rw e
+
+      pub written_room : m % 2 ≡ 1 → p₀ + length (marked_bytes m₀ cs) ≤ length room₀ → p + body_bytes ≤ length room
+      unfolding command_bytes
+      written_room e l = omega (arith, w.place, w.len, marked_long, ap length (bit_some e))
+
+      pub written_some : (room' : List ℕ) (p' : ℕ) → m % 2 ≡ 1 → room' ≡ sets room p (command_bytes (get_or cs k nothing)) → p' ≡ p + body_bytes → Written cs m₀ room₀ p₀ room' p' (m / 2) (k + 1)
+      written_some room' p' e o q =
           let x : List ℕ = bit_bytes m (get_or cs k nothing) in
+          let n : p' ≡ p + length x = q ∙ ap (λ (i : ℕ). p + i) (unfold command_bytes in ap length (sym (bit_some e))) in
+          let o' : room' ≡ sets room p x = rw (bit_some e) o in
           record {
-            count = w.count;
-            most = omega arith;
-            len = ap length o ∙ length-sets room p x ∙ w.len;
+            len = ap length o' ∙ length-sets room p x ∙ w.len;
             place = omega (arith, w.place, marked_long);
-            whole = rw (o, n, ← sets-append room p x (marked_bytes (m / 2) (drop (k + 1) (take c cs))), ← marked_at) w.whole;
+            whole = rw (o', n, ← sets-append room p x (marked_bytes (m / 2) (drop (k + 1) cs)), ← marked_at) w.whole;
           }
 
-    module _ (h : c ≤ k) where
-      marked_none : marked_bytes m (drop k (take c cs)) ≡ []
-      unfolding marked_bytes
-      marked_none = rw (used_none cs c k h)
+      pub written_skip : (room' : List ℕ) (p' : ℕ) → (m % 2 ≡ 1 → ⊥) → room' ≡ room → p' ≡ p → Written cs m₀ room₀ p₀ room' p' (m / 2) (k + 1)
+      written_skip room' p' n o q =
+          let e : marked_bytes m (drop k cs) ≡ marked_bytes (m / 2) (drop (k + 1) cs) = marked_at ∙ rw (bit_none n) in
+          rw (o, q) (record { len = w.len; place = rw (← e) w.place; whole = rw (← e) w.whole })
 
-      pub written_next : p ≡ p₀ + length (marked_bytes m₀ (take c cs))
+    module _ (h : length cs ≤ k) where
+      marked_none : marked_bytes m (drop k cs) ≡ []
+      unfolding marked_bytes
+      marked_none = rw (drop_of_length-le cs {i = k} h)
+
+      pub written_next : p ≡ p₀ + length (marked_bytes m₀ cs)
       written_next = omega (arith, w.place, ap length marked_none)
 
-      pub written_all : room ≡ sets room₀ p₀ (marked_bytes m₀ (take c cs))
+      pub written_all : room ≡ sets room₀ p₀ (marked_bytes m₀ cs)
       written_all = rw marked_none at w.whole

@@ -1,18 +1,22 @@
 -- A record and a header at the front of the room: runs of stores that follow each other are one.
 -- Assumes nothing.
-use Prim.Native.Nat.{ℕ, ◌+◌, ◌≤◌, ◌<◌}
-use mathlib.Core.Path.{◌≡◌, refl, ap, subst, ◌∙◌}
+use Prim.Native.Nat.{ℕ, ◌+◌, ◌*◌, ◌≤◌, ◌<◌}
+use mathlib.Core.Path.{◌≡◌, refl, sym, ap, subst, ◌∙◌}
 use mathlib.Core.List.{List, ◌++◌}
 use native.Mathlib.Omega.{arith}
 use native.Mathlib.Nat.{zero-add}
 use lib.ListN.{length, take, drop, set, length-take, length-set}
 use lib.Seq.{sets, sets-eq, length-sets}
+use Rattle.std.specs.Int.RustNames.{count_ones}
+use Rattle.common.specs.Limits.{width}
 use Rattle.common.specs.Bytes.{four_bytes}
 use Rattle.ticks.specs.declared.Command.{Command}
 use Rattle.ticks.specs.declared.Tick.{Tick}
 use Rattle.ticks.specs.Play.{over}
-use Rattle.records.specs.Format.{version_place, channels_place, count_place, records_place, head_bytes, tempo_place, version, count_byte, mask, channels_bytes, record_bytes, stream_header}
+use Rattle.records.specs.Format.{version_place, channels_place, count_place, records_place, head_bytes, body_bytes, tempo_place, version, count_byte, mask, channels_bytes, record_bytes, stream_header}
+use Rattle.records.specs.Length.{record_most}
 use Rattle.records.specs.Marked.{marked_bytes, marked_mask}
+use Rattle.records.proofs.Channels.{long_by_mask}
 
 front : (xs room : List ℕ) → length xs ≤ length room → sets room 0 xs ≡ over xs room
 front xs room h = sets-eq xs room 0 (omega arith) ∙ ap (λ (k : ℕ). xs ++ drop k room) (zero-add (length xs))
@@ -29,6 +33,12 @@ module _ (c : ℕ) (registers : List Command) (t : Tick) where
   pub record_long : (n : ℕ) → n ≡ length (channels_bytes (take c registers) t.commands) → head_bytes + n ≡ length (record_bytes c registers t)
   unfolding record_bytes
   record_long n e = omega arith
+
+  pub record_ones : (m : ℕ) → m ≡ mask (take c registers) t.commands → head_bytes + body_bytes * count_ones m ≡ length (record_bytes c registers t)
+  record_ones m e = rw e (record_long _ (sym (long_by_mask (take c registers) t.commands)))
+
+  pub record_few : (m : ℕ) → c ≤ width → m ≡ mask (take c registers) t.commands → head_bytes + body_bytes * count_ones m ≤ head_bytes + body_bytes * width
+  record_few m h e = rw (record_ones m e) (record_most width c registers t h)
 
   module _ (room : List ℕ) (h : length (record_bytes c registers t) ≤ length room) where
     pub record_first : 0 < length room

@@ -48,80 +48,30 @@ pub const BODY_BYTES: usize = 6;
 
 pub const START_PLACE: usize = 4;
 
+// A tick after its registers, the commands of the tick before, for so many channels: what a record says.
+#[derive(Clone, Copy)]
+pub struct Record<'a> {
+    pub channels: usize,
+    pub registers: &'a [Command; WIDTH],
+    pub tick: &'a Tick,
+    ghost few: { channels ≤ width },
+    ghost long: { (length registers.now ≡ width) × (length tick.now.commands ≡ width) },
+}
+
 // The registers at first.
+#[tactic(auto, unfolding(crate::specs::Format::at_first))]
 pub fn at_first() -> [Command; WIDTH]
     ensures { result ≡ at_first }
 {
-    let none = Command {
-        sample: 0,
-        volume: 0,
-        period: 0,
-        start: false,
-        offset: 0,
-    };
-    [none; WIDTH]
+    [Command::default(); WIDTH]
 }
 
 // Whether a channel's bit is set. A start sets it also where no number differs.
+#[tactic(auto, unfolding(crate::specs::Format::changed))]
 fn is_changed(r: Command, c: Command) -> bool
     ensures { result ≡ changed r c }
 {
-    (c.sample != r.sample) | ((c.volume != r.volume) | ((c.period != r.period) | c.start))
-}
-
-// A mask with one more bit below its lowest.
-fn with_bit(b: bool, m: u8) -> u8
-    requires { m < 128 }
-    ensures { result ≡ bit b + 2 * m }
-{
-    bit_of(b) + 2 * m
-}
-
-// A record's mask.
-fn mask(channels: usize, registers: [Command; WIDTH], commands: [Command; WIDTH]) -> u8
-    requires { channels ≤ width }
-    ensures { result ≡ mask (take channels registers) commands }
-{
-    let mut m: u8 = 0;
-    let mut k = channels;
-    while 0 < k {
-        k -= 1;
-        m = with_bit(is_changed(registers[k], commands[k]), m);
-    }
-    m
-}
-
-// How many bytes a channel adds to a record.
-fn channel_len(r: Command, c: Command) -> usize
-    ensures { (result ≡ length (channel_bytes r c)) × (result ≤ body_bytes) }
-{
-    if is_changed(r, c) {
-        return BODY_BYTES;
-    }
-    0
-}
-
-// How many bytes all channels add to a record.
-fn channels_len(channels: usize, registers: [Command; WIDTH], commands: [Command; WIDTH]) -> usize
-    requires { channels ≤ width }
-    ensures { (result ≡ length (channels_bytes (take channels registers) commands)) × (result ≤ body_bytes * width) }
-{
-    let mut n = 0;
-    let mut k = 0;
-    while k < channels {
-        n += channel_len(registers[k], commands[k]);
-        k += 1;
-    }
-    n
-}
-
-// How many bytes a tick's record has.
-pub fn record_len(channels: usize, registers: [Command; WIDTH], tick: Tick) -> usize
-    requires { channels ≤ width }
-    ensures { (result ≡ length (record_bytes channels registers tick)) × (result ≤ head_bytes + body_bytes * width) }
-{
-    let commands = tick.commands;
-    HEAD_BYTES + channels_len(channels, registers, commands)
+    c.sample != r.sample || c.volume != r.volume || c.period != r.period || c.start
 }
 
 // Writes a command's bytes at a place.
@@ -130,51 +80,77 @@ fn put_command(c: Command, at: usize, room: &mut [u8])
     requires fits { at + body_bytes ≤ length room.old }
     ensures { room.new ≡ sets room.old at (command_bytes c) }
 {
-    room[at] = c.sample;
-    room[at + 1] = c.volume;
-    room[at + 2] = (c.period / 256) as u8;
-    room[at + 3] = (c.period % 256) as u8;
-    room[at + START_PLACE] = bit_of(c.start);
-    room[at + 5] = c.offset;
+    let [high, low] = c.period.to_be_bytes();
+    let body = [c.sample, c.volume, high, low, u8::from(c.start), c.offset];
+    room[at..at + BODY_BYTES].copy_from_slice(&body);
 }
 
-// Writes what a channel whose bit is the lowest of m adds to a record, at a place, and returns the place after it.
-fn put_channel(m: u8, c: Command, at: usize, room: &mut [u8]) -> usize
-    requires small { Spellable c }
-    requires fits { at + length (bit_bytes m c) ≤ length room.old }
-    ensures next { result ≡ at + length (bit_bytes m c) }
-    ensures written { room.new ≡ sets room.old at (bit_bytes m c) }
+// Writes the commands of a mask's bits, the lowest first, from a place on, and returns the place after them.
+#[tactic(auto, using(crate::proofs::Channels::written_none, crate::proofs::Channels::written_room, crate::proofs::Channels::written_some, crate::proofs::Channels::written_skip, crate::proofs::Channels::written_next, crate::proofs::Channels::written_all))]
+fn put_commands(mask: u8, commands: &[Command], at: usize, room: &mut [u8]) -> usize
+    requires small { AllSpellable (length commands.now) commands.now }
+    requires fits { at + length (marked_bytes mask commands.now) ≤ length room.old }
+    ensures next { result ≡ at + length (marked_bytes mask commands.now) }
+    ensures written { room.new ≡ sets room.old at (marked_bytes mask commands.now) }
 {
-    if m % 2 == 0 {
-        return at;
+    let mut next = at;
+    let mut bits = mask;
+    for command in commands {
+        if bits % 2 == 1 {
+            put_command(*command, next, room);
+            next += BODY_BYTES;
+        }
+        bits /= 2;
     }
-    put_command(c, at, room);
-    at + BODY_BYTES
+    next
 }
 
-// Writes what all channels add to a record by its mask, at a place, and returns the place after it.
-fn put_channels(
-    channels: usize,
-    mask: u8,
-    commands: [Command; WIDTH],
-    at: usize,
-    room: &mut [u8],
-) -> usize
-    requires few { channels ≤ width }
-    requires small { AllSpellable channels commands }
-    requires fits { at + length (marked_bytes mask (take channels commands)) ≤ length room.old }
-    ensures next { result ≡ at + length (marked_bytes mask (take channels commands)) }
-    ensures written { room.new ≡ sets room.old at (marked_bytes mask (take channels commands)) }
-{
-    let mut p = at;
-    let mut m = mask;
-    let mut k = 0;
-    while k < channels {
-        p = put_channel(m, commands[k], p, room);
-        m = m / 2;
-        k += 1;
+impl Record<'_> {
+    // The record's mask: bit 0 is channel 1.
+    #[tactic(auto, using(crate::proofs::Channels::masked_none, crate::proofs::Channels::masked_small, crate::proofs::Channels::masked_all))]
+    fn mask(&self) -> u8
+        ensures { result ≡ mask (take self.now.channels self.now.registers.now) self.now.tick.now.commands }
+    {
+        let mut mask = 0;
+        for k in (0..self.channels).rev() {
+            mask = 2 * mask + u8::from(is_changed(self.registers[k], self.tick.commands[k]));
+        }
+        mask
     }
-    p
+
+    // How many bytes the record has.
+    #[tactic(auto, using(crate::proofs::Fronts::record_ones, crate::proofs::Fronts::record_few))]
+    pub fn len(&self) -> usize
+        ensures { (result ≡ length (record_bytes self.now.channels self.now.registers.now self.now.tick.now)) × (result ≤ head_bytes + body_bytes * width) }
+    {
+        HEAD_BYTES + BODY_BYTES * self.mask().count_ones() as usize
+    }
+
+    // Writes the record at the front of the room, and returns its length.
+    pub fn put(&self, room: &mut [u8]) -> usize
+        requires small { SpellableTick self.now.channels self.now.tick.now }
+        requires fits { length (record_bytes self.now.channels self.now.registers.now self.now.tick.now) ≤ length room.old }
+        ensures long { result ≡ length (record_bytes self.now.channels self.now.registers.now self.now.tick.now) }
+        ensures written { room.new ≡ over (record_bytes self.now.channels self.now.registers.now self.now.tick.now) room.old }
+    {
+        let mask = self.mask();
+        room[0] = mask;
+        room[TEMPO_PLACE] = self.tick.tempo as u8;
+        put_commands(mask, &self.tick.commands[..self.channels], HEAD_BYTES, room)
+    }
+}
+
+// How many bytes a tick's record has.
+pub fn record_len(channels: usize, registers: [Command; WIDTH], tick: Tick) -> usize
+    requires { channels ≤ width }
+    ensures { (result ≡ length (record_bytes channels registers tick)) × (result ≤ head_bytes + body_bytes * width) }
+{
+    Record {
+        channels,
+        registers: &registers,
+        tick: &tick,
+    }
+    .len()
 }
 
 // Writes a tick's record at the front of the room, and returns its length.
@@ -190,11 +166,12 @@ pub fn put_record(
     ensures long { result ≡ length (record_bytes channels registers tick) }
     ensures written { room.new ≡ over (record_bytes channels registers tick) room.old }
 {
-    let commands = tick.commands;
-    let m = mask(channels, registers, commands);
-    room[0] = m;
-    room[TEMPO_PLACE] = tick.tempo as u8;
-    put_channels(channels, m, commands, HEAD_BYTES, room)
+    Record {
+        channels,
+        registers: &registers,
+        tick: &tick,
+    }
+    .put(room)
 }
 
 // Writes a stream's header at the front of the room: how many bytes follow its first four, how many channels and how many ticks it has.
