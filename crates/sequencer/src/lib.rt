@@ -7,7 +7,9 @@ ghost use Rattle.common.specs.Limits.{width};
 ghost use Rattle.ticks.specs.Commands.{sounding_of};
 ghost use Rattle.reader.specs.Layouts.{LegalLayout};
 ghost use Rattle.sequencer.specs.LegalFacts.{LegalTime, LegalSong, LegalRun};
+ghost use Rattle.common.specs.ByteLaws.{Bytes};
 ghost use Rattle.reader.specs.Judge.{verdict};
+ghost use Rattle.reader.specs.Modules.{as_module};
 ghost use Rattle.effects.specs.Commands.{voiced};
 ghost use Rattle.effects.specs.LegalFacts.{LegalDepths};
 ghost use Rattle.effects.specs.Small.{Small};
@@ -20,6 +22,8 @@ ghost use Rattle.sequencer.specs.Songs.{course_from, fresh_song, voiced_on, all_
 use common::limits::WIDTH;
 use effects::{Channel, Voiced};
 use reader::Layout;
+use reader::module::Module;
+use row::Row;
 use ticks::{Command, Tick};
 
 pub mod legality;
@@ -110,123 +114,131 @@ pub struct Worked {
     pub tick: Tick,
 }
 
-// The course from a position's first row on.
-pub fn course_from(position: u32) -> Course
-    ensures { result ≡ course_from position }
-{
-    let at = Place { position, row: 0 };
-    Course {
-        at,
-        next: at,
-        looping: Loop::default(),
+impl Course {
+    // From a position's first row on.
+    pub fn from_position(position: u32) -> Course
+        ensures { result ≡ course_from position }
+    {
+        let at = Place { position, row: 0 };
+        Course {
+            at,
+            next: at,
+            looping: Loop::default(),
+        }
     }
 }
 
 // The song before its first tick.
-#[tactic(auto, unfolding(crate::specs::Songs::fresh_song, laws::specs::Ranges::each))]
-pub fn fresh() -> Song
-    ensures { result ≡ fresh_song }
-{
-    let channels = [effects::fresh_channel(); WIDTH];
-    Song {
-        course: course_from(0),
-        time: Time {
-            tick: 0,
-            delay: 0,
-            speed: 6,
-            tempo: 125,
-        },
-        desk: Desk::default(),
-        channels,
-    }
-}
+impl Default for Song {
+    ghost is_default = { λ song. song ≡ fresh_song };
 
-// Channel i at tick u of the row that begins at a place, with t = u mod speed, from what it is before and the sample that its voice has.
-fn voiced_on(
-    file: &[u8],
-    row: usize,
-    u: u32,
-    t: u32,
-    channel: Channel,
-    sounding: u32,
-    i: usize,
-) -> Voiced
-    requires place { (row < 2 ^ 62) × (i < width) }
-    requires depths { LegalDepths channel }
-    requires small { Small (voiced file.now (cell_from file.now (row + 4 * i)) u t channel sounding) }
-    ensures { result ≡ voiced file.now (cell_from file.now (row + 4 * i)) u t channel sounding }
-{
-    effects::commands::voiced(
-        file,
-        reader::song::cell_in(file, row, i),
-        u,
-        t,
-        channel,
-        sounding,
-    )
+    #[tactic(auto, unfolding(crate::specs::Songs::fresh_song, laws::specs::Ranges::each))]
+    fn default() -> Song {
+        let channels = [effects::fresh_channel(); WIDTH];
+        Song {
+            course: Course::from_position(0),
+            time: Time {
+                tick: 0,
+                delay: 0,
+                speed: 6,
+                tempo: 125,
+            },
+            desk: Desk::default(),
+            channels,
+        }
+    }
 }
 
 // The channels before a tick's work, with no command yet.
 fn before_work(channels: [Channel; WIDTH]) -> AllVoiced
     ensures { BeforeWork channels result }
 {
-    let nothing = Command {
-        sample: 0,
-        volume: 0,
-        period: 0,
-        start: false,
-        offset: 0,
-    };
-    let commands = [nothing; WIDTH];
+    let commands = [Command::default(); WIDTH];
     AllVoiced { channels, commands }
 }
 
-// The channels past the count are as fresh, and stay so.
-fn all_voiced(
-    layout: Layout,
-    file: &[u8],
-    row: usize,
-    song: Song,
-    sounding: [u32; WIDTH],
-) -> AllVoiced
-    requires layout { LegalLayout layout }
-    requires row { BeginsAt (lent layout file.now) song.course.at row }
-    requires legal { LegalSong (song_length (lent layout file.now)) layout song }
-    requires small { (j : ℕ) → j < layout.channels → Small (voiced_on (lent layout file.now) song sounding j) }
-    ensures { result ≡ all_voiced (lent layout file.now) song sounding }
+// All channels in a tick of the row that the song is at. Those past the count are as fresh, and stay so.
+fn all_voiced(row: &Row, song: Song, sounding: [u32; WIDTH]) -> AllVoiced
+    requires row { row.now.at ≡ song.course.at }
+    requires legal { LegalSong (song_length (lent row.now.layout row.now.file.now)) row.now.layout song }
+    requires small { (j : ℕ) → j < row.now.layout.channels → Small (voiced_on (lent row.now.layout row.now.file.now) song sounding j) }
+    ensures { result ≡ all_voiced (lent row.now.layout row.now.file.now) song sounding }
 {
     let u = song.time.tick;
     let t = u % song.time.speed;
     let channels = song.channels;
     let mut all = before_work(channels);
-    for i in 0..layout.channels {
-        let voiced = voiced_on(file, row, u, t, song.channels[i], sounding[i], i);
+    for i in 0..row.layout.channels {
+        let voiced = effects::commands::voiced(
+            row.file,
+            row.cell(i),
+            u,
+            t,
+            song.channels[i],
+            sounding[i],
+        );
         all.channels[i] = voiced.channel;
         all.commands[i] = voiced.command;
     }
     all
 }
 
+// A tick of a legal song in the row that it is at.
 #[tactic(auto, unfolding(crate::specs::Songs::tick_of, crate::specs::Songs::tick_with), using(crate::proofs::Laws::run_small))]
-// One tick of a legal song: the song after it, and what it tells the voices. `sounding` are the samples that the voices have, legal too.
+fn tick_in(row: &Row, song: Song, sounding: [u32; WIDTH]) -> Worked
+    requires row { row.now.at ≡ song.course.at }
+    requires accepted { (verdict (lent row.now.layout row.now.file.now)).number ≡ 0 }
+    requires bytes { Bytes row.now.file.now }
+    requires legal { LegalRun (lent row.now.layout row.now.file.now) song sounding }
+    ensures { result ≡ tick_of (lent row.now.layout row.now.file.now) song sounding }
+{
+    let worked = row.work(song);
+    let AllVoiced { channels, commands } = all_voiced(row, song, sounding);
+    Worked {
+        song: worked.advanced(channels),
+        tick: Tick {
+            tempo: worked.time.tempo,
+            commands,
+        },
+    }
+}
+
+impl Song {
+    // One tick of a legal song: the song after it, and what it tells the voices. `sounding` are the samples that the voices have, legal too.
+    pub fn tick(self, m: &Module, sounding: [u32; WIDTH]) -> Worked
+        requires { LegalRun (as_module m.now) self sounding }
+        ensures { result ≡ tick_of (as_module m.now) self sounding }
+    {
+        tick_in(&Row::of(m, self.course.at), self, sounding)
+    }
+}
+
+pub fn course_from(position: u32) -> Course
+    ensures { result ≡ course_from position }
+{
+    Course::from_position(position)
+}
+
+pub fn fresh() -> Song
+    ensures { result ≡ fresh_song }
+{
+    Song::default()
+}
+
 pub fn tick(layout: Layout, file: &[u8], song: Song, sounding: [u32; WIDTH]) -> Worked
     requires layout { LegalLayout layout }
     requires accepted { (verdict (lent layout file.now)).number ≡ 0 }
     requires legal { LegalRun (lent layout file.now) song sounding }
     ensures { result ≡ tick_of (lent layout file.now) song sounding }
 {
-    let positions = reader::song::song_length(layout, file);
-    let at = song.course.at;
-    let row = reader::song::row_at(layout, file, at.position, at.row);
-    let worked = row::song_work(layout, file, positions, row, song);
-    let AllVoiced { channels, commands } = all_voiced(layout, file, row, song, sounding);
-    Worked {
-        song: next::advanced(worked, channels),
-        tick: Tick {
-            tempo: worked.time.tempo,
-            commands,
-        },
-    }
+    let row = Row {
+        file,
+        layout,
+        positions: reader::song::song_length(layout, file),
+        at: song.course.at,
+        cells: reader::song::row_at(layout, file, song.course.at.position, song.course.at.row),
+    };
+    tick_in(&row, song, sounding)
 }
 
 // The samples that the voices have after these commands.

@@ -4,4 +4,4 @@ use Rattle.sequencer.proofs.Laws.{Voicing}
 use Rattle.sequencer.proofs.all_voiced.Given as goal
 
 abbrev pub invariant-loop-i : goal.invariant-loop-i
-invariant-loop-i l = Voicing (lent l.fn.layout l.file) l.song l.sounding l.row l.all l.i
+invariant-loop-i l = Voicing (lent l.row.layout l.row.file.now) l.song l.sounding l.all l.i

@@ -2,7 +2,7 @@
 use Rattle.std.proofs.Common.{◌≡◌}
 use Rattle.reader.specs.File.{lent}
 use Rattle.sequencer.specs.Row.{flow_through}
-use Rattle.sequencer.proofs.row.flow_through.Given as goal
+use Rattle.sequencer.proofs.row.Row.flow.Given as goal
 
 abbrev pub invariant-loop-i : goal.invariant-loop-i
-invariant-loop-i l = l.flow ≡ flow_through (lent l.fn.layout l.fn.file) l.fn.at l.initial.flow l.i
+invariant-loop-i l = l.flow ≡ flow_through (lent l.self.layout l.self.file.now) l.self.at l.initial.flow l.i

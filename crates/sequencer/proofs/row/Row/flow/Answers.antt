@@ -2,7 +2,7 @@
 use Rattle.std.proofs.Common.{rules}
 use Rattle.sequencer.proofs.Laws.{flow_again}
 use Rattle.sequencer.specs.Row.{flow_through}
-use Rattle.sequencer.proofs.row.flow_through.Goals as goal
+use Rattle.sequencer.proofs.row.Row.flow.Goals as goal
 
 pub loop-i-init : goal.loop-i-init
 unfolding flow_through

@@ -1,0 +1,7 @@
+-- The cells are there, since the row begins where the struct says.
+use Rattle.std.proofs.Common.{rules}
+use Rattle.sequencer.proofs.Laws.{cell_read}
+use Rattle.sequencer.proofs.row.Row.cell.Goals as goal
+
+pub returns-clause-cell : goal.returns-clause-cell
+returns-clause-cell c = search (cell_read, rules)
