@@ -143,7 +143,21 @@ pub fn mix_into(
     ensures moved { voices.new ≡ moved m.now.layout.channels (samples_in (as_module m.now) m.now.extents) voices.old commands.now frames }
     ensures mixed { out.new ≡ mixed m.now.layout.channels (samples_in (as_module m.now) m.now.extents) voices.old commands.now frames ++ drop (frame_numbers * frames) out.old }
 {
-    *voices = mix(m.layout, m.file, m.extents, *voices, *commands, frames, out);
+    let channels = m.layout.channels;
+    let extents = named(channels, &m.extents, commands);
+    tell(channels, &extents, commands, voices);
+    if quiet(channels, voices) {
+        runs::clear(FRAME_NUMBERS * frames, out);
+        return;
+    }
+    let mix = Mix {
+        file: m.file,
+        extents,
+        paces: paces_of(channels, voices),
+        channels,
+        times: scale(channels),
+    };
+    mix.pieces(voices, frames, out);
 }
 
 // A voice after the next frames, which nobody hears.
@@ -173,7 +187,8 @@ pub fn pass(
         let command = commands[i];
         let extent = extents[usize::from(command.sample)];
         let told = voices[i].told(command, extent);
-        voices[i] = pass_voice(extent, told, frames);
+        let after = pass_voice(extent, told, frames);
+        voices[i] = after;
     }
     voices
 }
@@ -183,5 +198,10 @@ pub fn pass_by(m: &Module, voices: &mut [Voice; WIDTH], commands: &[Command; WID
     requires ready { Ready (as_module m.now) m.now.extents voices.old commands.now }
     ensures { voices.new ≡ moved m.now.layout.channels (samples_in (as_module m.now) m.now.extents) voices.old commands.now frames }
 {
-    *voices = pass(m.layout, m.file, m.extents, *voices, *commands, frames);
+    for i in 0..m.layout.channels {
+        let command = commands[i];
+        let extent = m.extents[usize::from(command.sample)];
+        let told = voices[i].told(command, extent);
+        voices[i] = pass_voice(extent, told, frames);
+    }
 }
