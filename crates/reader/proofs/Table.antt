@@ -8,14 +8,15 @@ use native.Mathlib.Omega.{arith}
 use lib.Dec.{ltb}
 use lib.ListN.{length}
 use borrow.Author.Tests.{lt-ltb, le-ltb}
-use Rattle.laws.specs.Search.{some_below, some_above}
+use Rattle.std.specs.Prelude.{Option, Some, None}
 use Rattle.common.specs.Answers.{refusing, refused, accepted}
 use Rattle.reader.specs.File.{sample_count, volume_place, loop_start_place, cells_in, sample_behind, sample_place, Module, lent, entries, cell_place, patterns_of}
 use Rattle.common.specs.Limits.{rows}
 use Rattle.common.specs.declared.Answer.{Answer}
 use Rattle.reader.specs.Judge.{tagged, bad_length, bad_entry, bad_volume, bad_loop, bad_cell, cell_lines, rest_lines, bad_number_at, verdict}
 use Rattle.reader.specs.declared.Layout.{Layout}
-use Rattle.laws.specs.Ranges.{some, first}
+use Rattle.laws.specs.Ranges.{some}
+use Rattle.reader.specs.Search.{found, found_some, found_not}
 
 module _ (layout : Layout) (bytes : List ℕ) where
   abbrev m : Module
@@ -29,45 +30,45 @@ module _ (layout : Layout) (bytes : List ℕ) where
     p1 : ltb (length m.bytes) m.layout.patterns ≡ false
     p1 = le-ltb (length m.bytes) m.layout.patterns long
 
-    pub refused_2 : not t ≡ true → (x : Answer) → x ≡ refused 2 m.layout.tag → x ≡ verdict m
+    pub refused_2 : t ≡ false → (x : Answer) → x ≡ refused 2 m.layout.tag → x ≡ verdict m
     unfolding verdict refusing
     refused_2 h x z = z ∙ rw (p1, ← te, h)
 
-    module _ (tq : not t ≡ false) (l : Bool) (le : l ≡ bad_length m) where
+    module _ (tq : t ≡ true) (l : Bool) (le : l ≡ bad_length m) where
       p2 : not (tagged m) ≡ false
-      p2 = ap not (sym te) ∙ tq
+      p2 = ap not (sym te ∙ tq)
 
       pub refused_3 : l ≡ true → (x : Answer) → x ≡ refused 3 m.layout.song → x ≡ verdict m
       unfolding verdict refusing
       refused_3 h x z = z ∙ rw (p1, p2, ← le, h)
 
-      module _ (lq : l ≡ false) (e : ℕ) (ee : e ≡ first (bad_entry m) entries) where
+      module _ (lq : l ≡ false) (e : Option ℕ) (ee : e ≡ found (bad_entry m) entries) where
         p3 : bad_length m ≡ false
         p3 = sym le ∙ lq
 
-        pub refused_4 : e < entries → (x : Answer) → x ≡ refused 4 (m.layout.table + e) → x ≡ verdict m
+        pub refused_4 : (i : ℕ) → e ≡ Some i → (x : Answer) → x ≡ refused 4 (m.layout.table + i) → x ≡ verdict m
         unfolding verdict refusing
-        refused_4 h x z = z ∙ rw (p1, p2, p3, some_below (bad_entry m) entries e ee h, ← ee)
+        refused_4 i h x z = let f = found_some (bad_entry m) entries i e ee h in z ∙ rw (p1, p2, p3, f.0, f.1)
 
-        module _ (eq : entries ≤ e) (v : ℕ) (ve : v ≡ first (bad_volume m) (sample_count m)) where
+        module _ (eq : e ≡ None) (v : Option ℕ) (ve : v ≡ found (bad_volume m) (sample_count m)) where
           p4 : some (bad_entry m) entries ≡ false
-          p4 = some_above (bad_entry m) entries e ee eq
+          p4 = found_not (bad_entry m) entries e ee eq
 
-          pub refused_5 : v < sample_count m → (x : Answer) → x ≡ refused 5 (volume_place v) → x ≡ verdict m
+          pub refused_5 : (k : ℕ) → v ≡ Some k → (x : Answer) → x ≡ refused 5 (volume_place k) → x ≡ verdict m
           unfolding verdict refusing
-          refused_5 h x z = z ∙ rw (p1, p2, p3, p4, some_below (bad_volume m) (sample_count m) v ve h, ← ve)
+          refused_5 k h x z = let f = found_some (bad_volume m) (sample_count m) k v ve h in z ∙ rw (p1, p2, p3, p4, f.0, f.1)
 
-          module _ (vq : sample_count m ≤ v) (o : ℕ) (oe : o ≡ first (bad_loop m) (sample_count m)) where
+          module _ (vq : v ≡ None) (o : Option ℕ) (oe : o ≡ found (bad_loop m) (sample_count m)) where
             p5 : some (bad_volume m) (sample_count m) ≡ false
-            p5 = some_above (bad_volume m) (sample_count m) v ve vq
+            p5 = found_not (bad_volume m) (sample_count m) v ve vq
 
-            pub refused_6 : o < sample_count m → (x : Answer) → x ≡ refused 6 (loop_start_place o) → x ≡ verdict m
+            pub refused_6 : (k : ℕ) → o ≡ Some k → (x : Answer) → x ≡ refused 6 (loop_start_place k) → x ≡ verdict m
             unfolding verdict refusing
-            refused_6 h x z = z ∙ rw (p1, p2, p3, p4, p5, some_below (bad_loop m) (sample_count m) o oe h, ← oe)
+            refused_6 k h x z = let f = found_some (bad_loop m) (sample_count m) k o oe h in z ∙ rw (p1, p2, p3, p4, p5, f.0, f.1)
 
-            pub refused_rest : sample_count m ≤ o → (r : Answer) → r ≡ refusing refused (accepted 0) (rest_lines m) → r ≡ verdict m
+            pub refused_rest : o ≡ None → (r : Answer) → r ≡ refusing refused (accepted 0) (rest_lines m) → r ≡ verdict m
             unfolding verdict refusing
-            refused_rest h r q = rw (p1, p2, p3, p4, p5, some_above (bad_loop m) (sample_count m) o oe h) q
+            refused_rest h r q = rw (p1, p2, p3, p4, p5, found_not (bad_loop m) (sample_count m) o oe h) q
 
 module _ (layout : Layout) (bytes : List ℕ) (n s : ℕ) (ne : n ≡ patterns_of (lent layout bytes)) (se : s ≡ sample_behind (lent layout bytes) n layout.samples) where
   abbrev k : Module
@@ -90,19 +91,19 @@ module _ (layout : Layout) (bytes : List ℕ) (n s : ℕ) (ne : n ≡ patterns_o
   refused_clean all ae h b be q x z = z ∙ rw (le-ltb (length k.bytes) (sample_place k (sample_count k)) (omega (arith, room)), ← ne, ← ae, ← be, q)
 
 -- ---- of n cells, the first that was found
-module _ (layout : Layout) (bytes : List ℕ) (n i : ℕ) (ie : i ≡ first (bad_cell (lent layout bytes)) n) where
+module _ (layout : Layout) (bytes : List ℕ) (n : ℕ) (c : Option ℕ) (ce : c ≡ found (bad_cell (lent layout bytes)) n) where
   abbrev o : Module
   o = lent layout bytes
 
-  pub refused_none : n ≤ i → (x : Answer) → x ≡ accepted 0 → x ≡ refusing refused (accepted 0) (cell_lines o n)
+  pub refused_none : c ≡ None → (x : Answer) → x ≡ accepted 0 → x ≡ refusing refused (accepted 0) (cell_lines o n)
   unfolding refusing cell_lines
-  refused_none h x z = z ∙ rw (some_above (bad_cell o) n i ie h)
+  refused_none h x z = z ∙ rw (found_not (bad_cell o) n c ce h)
 
-  module _ (l : i < n) (r : Bool) (re : r ≡ bad_number_at o (cell_place o.layout i)) where
+  module _ (i : ℕ) (h : c ≡ Some i) (r : Bool) (re : r ≡ bad_number_at o (cell_place o.layout i)) where
     pub refused_8 : r ≡ true → (x : Answer) → x ≡ refused 8 (cell_place o.layout i) → x ≡ refusing refused (accepted 0) (cell_lines o n)
     unfolding refusing cell_lines
-    refused_8 q x z = z ∙ rw (some_below (bad_cell o) n i ie l, ← ie, ← re, q)
+    refused_8 q x z = let f = found_some (bad_cell o) n i c ce h in z ∙ rw (f.0, f.1, ← re, q)
 
     pub refused_9 : r ≡ false → (x : Answer) → x ≡ refused 9 (cell_place o.layout i) → x ≡ refusing refused (accepted 0) (cell_lines o n)
     unfolding refusing cell_lines
-    refused_9 q x z = z ∙ rw (some_below (bad_cell o) n i ie l, ← ie, ← re, q)
+    refused_9 q x z = let f = found_some (bad_cell o) n i c ce h in z ∙ rw (f.0, f.1, ← re, q)

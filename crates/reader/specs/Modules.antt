@@ -1,4 +1,4 @@
--- A module that was read, as the definitions' module; and the line of a call that reads one.
+-- Files that were read, as the definitions' modules; and the line of a call that reads one.
 -- Assumes nothing.
 use Rattle.std.specs.Prelude.{ℕ, ◌≡◌, List, ◌∷◌}
 use Rattle.std.proofs.Common.{sym, ap, ◌∙◌}
@@ -8,15 +8,20 @@ use Rattle.common.specs.Answers.{Line, refusing}
 use Rattle.common.specs.Refusals.{number_of, refusal}
 use Rattle.common.specs.RefusalLaws.{refused_by_a_rule}
 use Rattle.reader.specs.File.{Module, lent, module_of}
-use Rattle.reader.specs.Judge.{verdict, judge_of, module_line}
+use Rattle.reader.specs.Judge.{judge_of, module_line}
 use Rattle.reader.specs.Accept.{module_given, module_passed}
+use Rattle.reader.specs.declared.headed.Headed.{Headed}
 use Rattle.reader.specs.declared.module.Module.{Module as ReadModule}
 
--- the file by its layout
+-- a file that is long enough for its headers
+abbrev pub as_headed : Headed → Module
+as_headed h = lent h.layout h.file.now
+
+-- a file that was accepted
 abbrev pub as_module : ReadModule → Module
 as_module m = lent m.layout m.file.now
 
--- which is the file's own
+-- which is the file's own module
 pub module_read : (m : ReadModule) (bytes : List ℕ) → m.file.now ≡ bytes → as_module m ≡ module_of bytes
 module_read m bytes e = rw (m.tagged, e)
 

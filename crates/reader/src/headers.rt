@@ -1,131 +1,110 @@
 // The headers, the song length and the table: refusals 2 to 6, and the number of patterns.
-ghost use Rattle.std.specs.Prelude.{◌≡◌, ◌+◌, ◌*◌, ◌≤◌, ◌<◌, max, length};
-ghost use Rattle.laws.specs.Ranges.{first, largest};
-ghost use Rattle.reader.specs.Layouts.{LegalLayout};
-ghost use Rattle.reader.specs.File.{lent, entries, entry_of, patterns_of};
+ghost use Rattle.std.specs.Prelude.{◌≡◌, ◌+◌, ◌*◌, ◌<◌, IfSome};
+ghost use Rattle.common.specs.Bytes.{word_at};
+ghost use Rattle.laws.specs.Ranges.{largest};
+ghost use Rattle.reader.specs.File.{sample_count, entries, entry_of, header_at, patterns_of};
 ghost use Rattle.reader.specs.Judge.{tagged, bad_length, bad_entry, bad_volume, bad_loop};
+ghost use Rattle.reader.specs.Modules.{as_headed};
+ghost use Rattle.reader.specs.Search.{found};
 
-use crate::Layout;
+use crate::headed::Headed;
 use crate::offsets::{
     ENTRIES, HEADER_BYTES, HEADERS_AT, LAST_PATTERN, LENGTH_AT, LOOP_LENGTH_AT, LOOP_START_AT,
     VOLUME_AT,
 };
+use crate::search::first;
 use common::limits::LOUDEST;
 
 const LOUDEST_BYTE: u8 = LOUDEST as u8;
 
 const MOST_POSITIONS: u8 = ENTRIES as u8;
 
-// Whether the layout has channels: a tag other than the four names none.
-pub fn is_tagged(layout: Layout, file: &[u8]) -> bool
-    ensures { result ≡ tagged (lent layout file.now) }
-{
-    layout.channels != 0
-}
-
-pub fn is_bad_length(layout: Layout, file: &[u8]) -> bool
-    requires legal_layout { LegalLayout layout }
-    requires patterns_in_bounds { layout.patterns ≤ length file.now }
-    ensures { result ≡ bad_length (lent layout file.now) }
-{
-    let at = layout.song;
-    if file[at] == 0 {
-        return true;
+impl<'a> Headed<'a> {
+    // Whether the layout has channels: a tag other than the four names none.
+    #[tactic(auto, unfolding(crate::specs::Judge::tagged))]
+    pub fn is_tagged(&self) -> bool
+        ensures { result ≡ tagged (as_headed self.now) }
+    {
+        self.layout.channels != 0
     }
-    file[at] > MOST_POSITIONS
-}
 
-// The first table entry above 63, or 128.
-pub fn first_bad_entry(layout: Layout, file: &[u8]) -> usize
-    requires legal_layout { LegalLayout layout }
-    requires patterns_in_bounds { layout.patterns ≤ length file.now }
-    ensures { result ≡ first (bad_entry (lent layout file.now)) entries }
-{
-    let mut i = 0;
-    while i < ENTRIES {
-        if file[layout.table + i] > LAST_PATTERN {
-            return i;
+    #[tactic(auto, unfolding(crate::specs::Judge::bad_length))]
+    pub fn is_bad_length(&self) -> bool
+        ensures { result ≡ bad_length (as_headed self.now) }
+    {
+        let length = self.file[self.layout.song];
+        (length == 0) | (length > MOST_POSITIONS)
+    }
+
+    fn entry(&self, i: usize) -> u8
+        requires { i < entries }
+        ensures { result ≡ entry_of (as_headed self.now) i }
+    {
+        self.file[self.layout.table + i]
+    }
+
+    // The first table entry above 63.
+    pub fn bad_entry(&self) -> Option<usize>
+        ensures found { result ≡ found (bad_entry (as_headed self.now)) entries }
+        ensures below { IfSome result (λ i. i < entries) }
+    {
+        first(ENTRIES, |i| self.entry(i) > LAST_PATTERN)
+    }
+
+    #[tactic(auto, using(laws::specs::Search::largest_zero, laws::specs::Search::largest_step))]
+    fn largest_entry(&self) -> u8
+        ensures { result ≡ largest (entry_of (as_headed self.now)) entries }
+    {
+        let mut top = 0;
+        for i in 0..ENTRIES {
+            top = self.entry(i).max(top);
         }
-        i += 1;
+        top
     }
-    ENTRIES
-}
 
-// The larger of a number and entry i of the table.
-fn larger(layout: Layout, file: &[u8], top: u8, i: usize) -> u8
-    requires legal_layout { LegalLayout layout }
-    requires patterns_in_bounds { (layout.patterns ≤ length file.now) × (i < entries) }
-    ensures { result ≡ max top (entry_of (lent layout file.now) i) }
-{
-    let entry = file[layout.table + i];
-    if top < entry { entry } else { top }
-}
-
-fn largest_entry(layout: Layout, file: &[u8]) -> u8
-    requires legal_layout { LegalLayout layout }
-    requires patterns_in_bounds { layout.patterns ≤ length file.now }
-    ensures { result ≡ largest (entry_of (lent layout file.now)) entries }
-{
-    let mut top: u8 = 0;
-    let mut i = 0;
-    while i < ENTRIES {
-        top = larger(layout, file, top, i);
-        i += 1;
+    // One more than the largest of all entries, played or not.
+    #[tactic(auto, unfolding(crate::specs::File::patterns_of))]
+    pub fn pattern_count(&self) -> usize
+        ensures { (result ≡ patterns_of (as_headed self.now)) × (result < 257) }
+    {
+        usize::from(self.largest_entry()) + 1
     }
-    top
-}
 
-// One more than the largest of all entries, played or not.
-pub fn pattern_count(layout: Layout, file: &[u8]) -> usize
-    requires legal_layout { LegalLayout layout }
-    requires patterns_in_bounds { layout.patterns ≤ length file.now }
-    ensures { (result ≡ patterns_of (lent layout file.now)) × (result < 257) }
-{
-    common::bytes::wide(largest_entry(layout, file)) + 1
-}
+    // The number of two bytes at a place of header k.
+    pub fn header_word(&self, k: usize, place: usize) -> usize
+        requires { (k < sample_count (as_headed self.now)) × (place < 29) }
+        ensures { (result ≡ word_at self.now.file.now (header_at k + place)) × (result < 65536) }
+    {
+        common::bytes::word(self.file, HEADERS_AT + HEADER_BYTES * k + place)
+    }
 
-// The first header whose volume is above 64, or their number.
-pub fn first_bad_volume(layout: Layout, file: &[u8]) -> usize
-    requires legal_layout { LegalLayout layout }
-    requires patterns_in_bounds { layout.patterns ≤ length file.now }
-    ensures { result ≡ first (bad_volume (lent layout file.now)) layout.samples }
-{
-    let mut k = 0;
-    while k < layout.samples {
-        if file[HEADERS_AT + HEADER_BYTES * k + VOLUME_AT] > LOUDEST_BYTE {
-            return k;
+    // The first header whose volume is above 64.
+    pub fn bad_volume(&self) -> Option<usize>
+        ensures found { result ≡ found (bad_volume (as_headed self.now)) (sample_count (as_headed self.now)) }
+        ensures below { IfSome result (λ k. k < sample_count (as_headed self.now)) }
+    {
+        first(self.layout.samples, |k| {
+            self.file[HEADERS_AT + HEADER_BYTES * k + VOLUME_AT] > LOUDEST_BYTE
+        })
+    }
+
+    #[tactic(auto, unfolding(crate::specs::Judge::bad_loop), using(crate::proofs::Laws::loop_short, crate::proofs::Laws::loop_long))]
+    fn is_bad_loop(&self, k: usize) -> bool
+        requires { k < sample_count (as_headed self.now) }
+        ensures { result ≡ bad_loop (as_headed self.now) k }
+    {
+        let again = self.header_word(k, LOOP_LENGTH_AT);
+        if again < 2 {
+            return false;
         }
-        k += 1;
+        self.header_word(k, LOOP_START_AT) + again > self.header_word(k, LENGTH_AT)
     }
-    layout.samples
-}
 
-fn is_bad_loop(layout: Layout, file: &[u8], k: usize) -> bool
-    requires legal_layout { LegalLayout layout }
-    requires patterns_in_bounds { (layout.patterns ≤ length file.now) × (k < layout.samples) }
-    ensures { result ≡ bad_loop (lent layout file.now) k }
-{
-    let header = HEADERS_AT + HEADER_BYTES * k;
-    let again = common::bytes::word(file, header + LOOP_LENGTH_AT);
-    if again < 2 {
-        return false;
+    // The first header whose loop leaves its sample.
+    pub fn bad_loop(&self) -> Option<usize>
+        ensures found { result ≡ found (bad_loop (as_headed self.now)) (sample_count (as_headed self.now)) }
+        ensures below { IfSome result (λ k. k < sample_count (as_headed self.now)) }
+    {
+        first(self.layout.samples, |k| self.is_bad_loop(k))
     }
-    common::bytes::word(file, header + LOOP_START_AT) + again
-        > common::bytes::word(file, header + LENGTH_AT)
-}
-
-// The first header whose loop leaves its sample, or their number.
-pub fn first_bad_loop(layout: Layout, file: &[u8]) -> usize
-    requires legal_layout { LegalLayout layout }
-    requires patterns_in_bounds { layout.patterns ≤ length file.now }
-    ensures { result ≡ first (bad_loop (lent layout file.now)) layout.samples }
-{
-    let mut k = 0;
-    while k < layout.samples {
-        if is_bad_loop(layout, file, k) {
-            return k;
-        }
-        k += 1;
-    }
-    layout.samples
 }

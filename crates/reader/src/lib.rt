@@ -10,10 +10,12 @@ use common::Answer;
 
 mod cells;
 mod halves;
+mod headed;
 mod headers;
 pub mod module;
 pub mod offsets;
 pub mod samples;
+mod search;
 pub mod song;
 pub mod verdict;
 

@@ -5,24 +5,25 @@ ghost use Rattle.common.specs.Refusals.{judged};
 ghost use Rattle.reader.specs.File.{lent};
 ghost use Rattle.reader.specs.Judge.{cell_lines, rest_lines, verdict, judge_of};
 ghost use Rattle.reader.specs.Layouts.{LegalLayout};
+ghost use Rattle.reader.specs.Modules.{as_headed};
 
+use crate::Layout;
+use crate::headed::Headed;
 use crate::offsets::{
-    CELL_BYTES, ENTRIES, HEADER_BYTES, HEADERS_AT, LOOP_START_AT, VOLUME_AT, cells_in, layout_of,
+    CELL_BYTES, HEADER_BYTES, HEADERS_AT, LOOP_START_AT, VOLUME_AT, cells_in, layout_of,
 };
-use crate::{Layout, cells, headers, samples};
 use common::limits::ROWS;
 use common::refusals::{Refusal, Rule};
 
 // Refusals 8 and 9: the first bad cell decides.
-fn judge_cells(layout: Layout, file: &[u8], n: usize) -> Result<(), Refusal>
-    requires legal_layout { LegalLayout layout }
-    requires n_in_bounds { layout.patterns + 4 * n ≤ length file.now }
-    ensures { judged result ≡ refusing refused (accepted 0) (cell_lines (lent layout file.now) n) }
+#[tactic(auto, using(crate::proofs::Table::refused_8, crate::proofs::Table::refused_9, crate::proofs::Table::refused_none))]
+fn judge_cells(headed: &Headed, n: usize) -> Result<(), Refusal>
+    requires { headed.now.layout.patterns + 4 * n ≤ length headed.now.file.now }
+    ensures { judged result ≡ refusing refused (accepted 0) (cell_lines (as_headed headed.now) n) }
 {
-    let i = cells::first_bad(layout, file, n);
-    if i < n {
-        let at = layout.patterns + CELL_BYTES * i;
-        if cells::is_bad_number(layout, file, at) {
+    if let Some(i) = headed.bad_cell(n) {
+        let at = headed.layout.patterns + CELL_BYTES * i;
+        if headed.is_bad_number(at) {
             return Err(Rule::CellSample.at(at));
         }
         return Err(Rule::CellPeriod.at(at));
@@ -31,23 +32,24 @@ fn judge_cells(layout: Layout, file: &[u8], n: usize) -> Result<(), Refusal>
 }
 
 // Refusals 7 to 9. The first bad cell is looked for only if there is one.
-fn judge_rest(layout: Layout, file: &[u8]) -> Result<(), Refusal>
-    requires legal_layout { LegalLayout layout }
-    requires patterns_in_bounds { layout.patterns ≤ length file.now }
-    ensures { judged result ≡ refusing refused (accepted 0) (rest_lines (lent layout file.now)) }
+#[tactic(auto, using(crate::proofs::Table::refused_7, crate::proofs::Table::refused_cells, crate::proofs::Table::refused_clean))]
+fn judge_rest(headed: &Headed) -> Result<(), Refusal>
+    ensures { judged result ≡ refusing refused (accepted 0) (rest_lines (as_headed headed.now)) }
 {
-    let n = headers::pattern_count(layout, file);
-    if file.len() < samples::sample_behind(layout, file, n, layout.samples) {
-        return Err(Rule::ShortSamples.at(file.len()));
+    let n = headed.pattern_count();
+    let length = headed.file.len();
+    if length < headed.sample_behind(n, headed.layout.samples) {
+        return Err(Rule::ShortSamples.at(length));
     }
-    let all = cells_in(layout, ROWS * n);
-    if cells::some_bad(layout, file, all) {
-        return judge_cells(layout, file, all);
+    let all = cells_in(headed.layout, ROWS * n);
+    if headed.some_bad(all) {
+        return judge_cells(headed, all);
     }
     Ok(())
 }
 
 // Whether the bytes are a module of this layout: the first refusal of the table, with its place.
+#[tactic(auto, using(crate::proofs::Table::refused_1, crate::proofs::Table::refused_2, crate::proofs::Table::refused_3, crate::proofs::Table::refused_rest))]
 pub fn judge_by(layout: Layout, file: &[u8]) -> Result<(), Refusal>
     requires { LegalLayout layout }
     ensures { judged result ≡ verdict (lent layout file.now) }
@@ -55,25 +57,23 @@ pub fn judge_by(layout: Layout, file: &[u8]) -> Result<(), Refusal>
     if file.len() < layout.patterns {
         return Err(Rule::ShortFile.at(file.len()));
     }
-    if !headers::is_tagged(layout, file) {
+    let headed = Headed { layout, file };
+    if !headed.is_tagged() {
         return Err(Rule::Tag.at(layout.tag));
     }
-    if headers::is_bad_length(layout, file) {
+    if headed.is_bad_length() {
         return Err(Rule::SongLength.at(layout.song));
     }
-    let entry = headers::first_bad_entry(layout, file);
-    if entry < ENTRIES {
-        return Err(Rule::TableEntry.at(layout.table + entry));
+    if let Some(i) = headed.bad_entry() {
+        return Err(Rule::TableEntry.at(layout.table + i));
     }
-    let loud = headers::first_bad_volume(layout, file);
-    if loud < layout.samples {
-        return Err(Rule::HeaderVolume.at(HEADERS_AT + HEADER_BYTES * loud + VOLUME_AT));
+    if let Some(k) = headed.bad_volume() {
+        return Err(Rule::HeaderVolume.at(HEADERS_AT + HEADER_BYTES * k + VOLUME_AT));
     }
-    let looped = headers::first_bad_loop(layout, file);
-    if looped < layout.samples {
-        return Err(Rule::SampleLoop.at(HEADERS_AT + HEADER_BYTES * looped + LOOP_START_AT));
+    if let Some(k) = headed.bad_loop() {
+        return Err(Rule::SampleLoop.at(HEADERS_AT + HEADER_BYTES * k + LOOP_START_AT));
     }
-    judge_rest(layout, file)
+    judge_rest(&headed)
 }
 
 // Whether the bytes are a module: the first refusal of the table, with its place.

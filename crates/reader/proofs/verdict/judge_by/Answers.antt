@@ -1,25 +1,14 @@
--- A law for each refusal, over what the calls before it returned.
-use Rattle.reader.proofs.Table.{refused_1, refused_2, refused_3, refused_4, refused_5, refused_6, refused_rest}
-use borrow.Author.Rules.{rules}
+-- The first entry, volume or loop that is bad: a law for each.
+use Rattle.std.proofs.Common.{ap}
+use Rattle.common.specs.Refusals.{refusal}
+use Rattle.reader.proofs.Table.{refused_4, refused_5, refused_6}
 use Rattle.reader.proofs.verdict.judge_by.Goals as goal
 
-pub returns-then-file-layout : goal.returns-then-file-layout
-returns-then-file-layout c = search (refused_1, rules)
+pub returns-in-Some : goal.returns-in-Some
+returns-in-Some c = refused_4 _ _ c.if-file-layout.false _ c.is_tagged.ensures c.if-not-is_tagged.false _ c.is_bad_length.ensures c.if-is_bad_length.false _ c.bad_entry.ensures.found _ c.in-Some.is _ (ap refusal c.at-in-Some.ensures)
 
-pub returns-then-not-is_tagged : goal.returns-then-not-is_tagged
-returns-then-not-is_tagged c = search (refused_2, rules)
+pub returns-in-Some-bad_volume : goal.returns-in-Some-bad_volume
+returns-in-Some-bad_volume c = refused_5 _ _ c.if-file-layout.false _ c.is_tagged.ensures c.if-not-is_tagged.false _ c.is_bad_length.ensures c.if-is_bad_length.false _ c.bad_entry.ensures.found c.in_default.is _ c.bad_volume.ensures.found _ c.in-Some-bad_volume.is _ (ap refusal c.at-in-Some-bad_volume.ensures)
 
-pub returns-then-is_bad_length : goal.returns-then-is_bad_length
-returns-then-is_bad_length c = search (refused_3, rules)
-
-pub returns-then-entry-lt-ENTRIES : goal.returns-then-entry-lt-ENTRIES
-returns-then-entry-lt-ENTRIES c = search (refused_4, rules)
-
-pub returns-then-loud-layout : goal.returns-then-loud-layout
-returns-then-loud-layout c = search (refused_5, rules)
-
-pub returns-then-looped-layout : goal.returns-then-looped-layout
-returns-then-looped-layout c = search (refused_6, rules)
-
-pub returns : goal.returns
-returns c = search (refused_rest, rules)
+pub returns-in-Some-bad_loop : goal.returns-in-Some-bad_loop
+returns-in-Some-bad_loop c = refused_6 _ _ c.if-file-layout.false _ c.is_tagged.ensures c.if-not-is_tagged.false _ c.is_bad_length.ensures c.if-is_bad_length.false _ c.bad_entry.ensures.found c.in_default.is _ c.bad_volume.ensures.found c.in_default-bad_volume.is _ c.bad_loop.ensures.found _ c.in-Some-bad_loop.is _ (ap refusal c.at-in-Some-bad_loop.ensures)

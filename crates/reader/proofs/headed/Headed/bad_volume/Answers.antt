@@ -1,0 +1,9 @@
+-- Each volume is tested as the definition does.
+use Rattle.std.proofs.Common.{rules}
+use Rattle.laws.specs.Tests.{called, tests}
+use Rattle.reader.specs.Judge.{bad_volume}
+use Rattle.reader.proofs.headed.Headed.bad_volume.Goals as goal
+
+pub returns-clause-found : goal.returns-clause-found
+unfolding bad_volume
+returns-clause-found c = c.first.ensures.found _ (λ i b l q. search (called, tests, rules))
