@@ -3,7 +3,6 @@ ghost use Rattle.std.specs.Prelude.{◌≡◌, ◌+◌, ◌/◌, ◌%◌, ◌<�
 ghost use Rattle.reader.specs.Halves.{has, first_two, low_period, bad_periods, mark_bits, upper_halves, seen_bad};
 
 use crate::Layout;
-use common::bytes::wide32;
 use common::limits::{GREATEST_CELL_PERIOD, LEAST_CELL_PERIOD};
 
 // The lowest bit of the high half.
@@ -38,10 +37,11 @@ pub fn first_two(file: &[u8], at: usize) -> u32
     requires { at + 1 < length file.now }
     ensures { (result ≡ first_two file.now at) × (result < 65536) }
 {
-    wide32(file[at]) + wide32(file[at + 1]) * 256
+    u32::from(file[at]) + u32::from(file[at + 1]) * 256
 }
 
 // The lower ten bits of each half's period.
+#[tactic(auto, using(crate::proofs::Scan::period_high, crate::proofs::Scan::period_low, crate::proofs::Scan::period_high_lt, crate::proofs::Scan::period_low_lt))]
 fn periods(both: u32) -> u32
     ensures result_value { (result / 65536 ≡ low_period (both / 65536)) × (result % 65536 ≡ low_period (both % 65536)) }
     ensures fits { (result / 65536 < 1024) × (result % 65536 < 1024) }
@@ -50,6 +50,7 @@ fn periods(both: u32) -> u32
 }
 
 // The bit of MARKS is set in each half whose period is bad; other bits say nothing.
+#[tactic(auto, using(crate::proofs::Scan::marks_are))]
 pub fn marks(both: u32) -> u32
     ensures { has mark_bits result ≡ bad_periods both }
 {
@@ -58,6 +59,7 @@ pub fn marks(both: u32) -> u32
 }
 
 // A file has 15 samples or 31.
+#[tactic(auto, using(crate::proofs::Scan::upper_of_15, crate::proofs::Scan::upper_of_31))]
 fn upper(layout: Layout) -> u32
     ensures { result ≡ upper_halves layout.samples }
 {
@@ -68,6 +70,7 @@ fn upper(layout: Layout) -> u32
 }
 
 // Whether one of the cells whose bytes and marks were joined is bad.
+#[tactic(auto, using(crate::proofs::Scan::seen_is))]
 pub fn is_seen_bad(layout: Layout, bytes: u32, marks: u32) -> bool
     ensures { result ≡ seen_bad layout.samples bytes marks }
 {

@@ -6,6 +6,9 @@ ghost use Rattle.reader.specs.Judge.{verdict};
 ghost use Rattle.reader.specs.Layouts.{LegalLayout};
 ghost use Rattle.reader.specs.Samples.{extents_of};
 
+use crate::headed::Headed;
+use crate::offsets::layout_of;
+use crate::verdict::judge_by;
 use crate::{Extent, Layout};
 use common::limits::SAMPLE_NUMBERS;
 use common::refusals::Refusal;
@@ -26,24 +29,34 @@ pub struct Module<'a> {
 }
 
 impl<'a> Module<'a> {
-    ghost use Rattle.std.specs.Prelude.{IfOk};
+    ghost use Rattle.std.specs.Prelude.{◌^◌, ◌<◌, IfOk};
     ghost use Rattle.std.specs.Result.{IfErr};
     ghost use Rattle.common.specs.Refusals.{refusal};
+    ghost use Rattle.reader.specs.Cells.{row_offset};
     ghost use Rattle.reader.specs.Judge.{judge_of};
+    ghost use Rattle.reader.specs.Modules.{as_module};
 
     // The file as a module, or the first refusal of the table, with its place.
-    #[tactic(auto, unfolding(crate::specs::Judge::judge_of))]
+    #[tactic(auto, unfolding(crate::specs::Judge::judge_of), using(crate::proofs::Extents::accepted_long))]
     pub fn read(file: &'a [u8]) -> Result<Module<'a>, Refusal>
         ensures accepted { IfOk result (λ m. m.file.now ≡ file.now) }
         ensures refused { IfErr result (λ e. judge_of file.now ≡ refusal e) }
     {
-        let layout = crate::offsets::layout_of(file);
-        crate::verdict::judge_by(layout, file)?;
+        let layout = layout_of(file);
+        judge_by(layout, file)?;
         Ok(Module {
             file,
             layout,
-            positions: crate::song::song_length(layout, file),
-            extents: crate::samples::extents(layout, file),
+            positions: u32::from(file[layout.song]),
+            extents: Headed { layout, file }.extents(),
         })
+    }
+
+    // Where the cells of a position's row begin, each from 0.
+    pub fn row_at(&self, position: u32, row: u32) -> usize
+        ensures place { result ≡ row_offset (as_module self.now) position row }
+        ensures low { result < 2 ^ 62 }
+    {
+        crate::song::row_at(self.layout, self.file, position, row)
     }
 }

@@ -42,6 +42,7 @@ const TAG_8CHN: u32 = 0x3843484E;
 const TAG_PLACE: usize = 1080;
 
 // The number that the tag's four bytes spell, each 0 past the end.
+#[tactic(auto, unfolding(common::specs::Bytes::four_at))]
 fn tag_of(file: &[u8]) -> u32
     ensures { result ≡ four_at file.now tag_place }
 {
@@ -53,6 +54,7 @@ fn tag_of(file: &[u8]) -> u32
 }
 
 // How many channels a tag names, 0 for any other than the four.
+#[tactic(auto, unfolding(crate::specs::File::channels_of), using(laws::specs::Tests::tests))]
 fn channels_of(tag: u32) -> usize
     ensures { result ≡ channels_of tag }
 {
@@ -69,6 +71,7 @@ fn channels_of(tag: u32) -> usize
 }
 
 // The layout of a file of 31 samples, with as many channels as its tag names.
+#[tactic(auto, using(crate::proofs::Laws::tagged_layout, crate::proofs::Laws::tagged_legal))]
 pub fn layout_of(file: &[u8]) -> Layout
     ensures value { result ≡ layout_of file.now }
     ensures legal_layout { LegalLayout result }
@@ -85,6 +88,7 @@ pub fn layout_of(file: &[u8]) -> Layout
 }
 
 // How many cells so many rows have.
+#[tactic(auto, using(crate::proofs::Laws::few_cells))]
 pub fn cells_in(layout: Layout, n: usize) -> usize
     requires legal_layout { LegalLayout layout }
     requires n_bound { n < 5000000000 }

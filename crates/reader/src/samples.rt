@@ -86,6 +86,7 @@ impl<'a> Headed<'a> {
 }
 
 // The extents by sample number; number 0 is no sample.
+#[tactic(auto, using(crate::proofs::Extents::accepted_long))]
 pub fn extents(layout: Layout, file: &[u8]) -> [Extent; SAMPLE_NUMBERS]
     requires legal_layout { LegalLayout layout }
     requires file_value { (verdict (lent layout file.now)).number ≡ 0 }

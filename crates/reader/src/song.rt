@@ -9,10 +9,11 @@ ghost use Rattle.reader.specs.Layouts.{LegalLayout};
 
 use crate::offsets::{CELL_BYTES, FINETUNE_AT, HEADER_BYTES, HEADERS_AT, VOLUME_AT};
 use crate::{Cell, Layout};
-use common::bytes::{byte, wide32};
+use common::bytes::byte;
 use common::limits::ROWS;
 
 // The song length; and that the file's elements are bytes, which a caller's proof may need.
+#[tactic(auto, using(crate::proofs::Extents::accepted_long))]
 pub fn song_length(layout: Layout, file: &[u8]) -> u32
     requires legal_layout { LegalLayout layout }
     requires file_value { (verdict (lent layout file.now)).number ≡ 0 }
@@ -20,9 +21,10 @@ pub fn song_length(layout: Layout, file: &[u8]) -> u32
     ensures bytes { Bytes file.now }
 {
     let at = layout.song;
-    wide32(file[at])
+    u32::from(file[at])
 }
 
+#[tactic(auto, using(laws::specs::Tests::tests))]
 fn effect_code(b2: u32, b3: u32) -> u32
     requires { (b2 < 256) × (b3 < 256) }
     ensures { (result ≡ effect_of b2 b3) × (result < 256) }
@@ -46,6 +48,7 @@ fn cell_of(b0: u32, b1: u32, b2: u32, b3: u32) -> Cell
 }
 
 // The cell at a place. One test serves its four bytes where all are in the file.
+#[tactic(auto, unfolding(crate::specs::Cells::cell_from))]
 fn cell_from(file: &[u8], at: usize) -> Cell
     requires { at + 3 < 2 ^ 63 }
     ensures cell { result ≡ cell_from file.now at }
@@ -53,10 +56,10 @@ fn cell_from(file: &[u8], at: usize) -> Cell
 {
     if at + 3 < file.len() {
         return cell_of(
-            wide32(file[at]),
-            wide32(file[at + 1]),
-            wide32(file[at + 2]),
-            wide32(file[at + 3]),
+            u32::from(file[at]),
+            u32::from(file[at + 1]),
+            u32::from(file[at + 2]),
+            u32::from(file[at + 3]),
         );
     }
     cell_of(
