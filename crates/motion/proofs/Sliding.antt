@@ -1,28 +1,11 @@
--- What slides of a period rest on: a sum above the row's first entry is kept at it.
+-- What a slide up rests on: a sum past 32 bits is above the row's first entry, and kept at it.
 -- Assumes nothing.
-use Prim.Native.Nat.{ℕ, ◌+◌, ◌-◌, ◌<◌}
-use mathlib.Core.Path.{◌≡◌}
-use native.Mathlib.Omega.{arith}
-use borrow.Author.Tests.{lt-ltb, ne_eqb}
-use Rattle.tuning.specs.Table.{greatest_of}
+use Rattle.std.specs.Prelude.{ℕ, ◌+◌, ◌-◌, ◌^◌, min, ◌≡◌}
+use Rattle.std.proofs.Common.{arith, ◌∙◌, ne_eqb}
+use Rattle.tuning.specs.Kept.{kept_most}
 use Rattle.tuning.specs.Tuned.{kept}
-use Rattle.motion.specs.Slides.{lowered, raised}
+use Rattle.motion.specs.Slides.{raised}
 
-module _ (f p d : ℕ) (z : p ≡ 0 → ⊥) where
-  pub lowered_by : (s r : ℕ) → s ≡ p - d → r ≡ kept f s → r ≡ lowered f p d
-  unfolding lowered
-  lowered_by s r e q = rw (ne_eqb p 0 z, ← e) q
-
-  pub raised_by : (r : ℕ) → r ≡ kept f (p + d) → r ≡ raised f p d
-  unfolding raised
-  raised_by r q = rw (ne_eqb p 0 z) q
-
-  pub raised_over : (g : ℕ) → g ≡ greatest_of f → g < p + d → g ≡ raised f p d
-  unfolding raised kept
-  raised_over g e h = rw (ne_eqb p 0 z, lt-ltb (greatest_of f) (p + d) (rw e at h)) e
-
-  pub raised_past : (g : ℕ) → g ≡ greatest_of f → g - d < p → g ≡ raised f p d
-  raised_past g e h = raised_over g e (omega arith)
-
-  pub raised_far : (g : ℕ) → g ≡ greatest_of f → g < d → g ≡ raised f p d
-  raised_far g e h = raised_over g e (omega arith)
+pub raised_by : (f p d s r : ℕ) → (p ≡ 0 → ⊥) → s ≡ min (p + d) (2 ^ 32 - 1) → r ≡ kept f s → r ≡ raised f p d
+unfolding raised
+raised_by f p d s r z e q = q ∙ rw (e, ne_eqb p 0 z) (kept_most f (p + d) (2 ^ 32 - 1) (omega arith))

@@ -1,6 +1,6 @@
 -- What the functions on the table rest on: a search along a row, and the cases of a finetune's definitions.
 -- Assumes nothing.
-use Prim.Native.Nat.{ℕ, suc, ◌+◌, ◌*◌, ◌≤◌, ◌<◌, min, max}
+use Prim.Native.Nat.{ℕ, suc, ◌+◌, ◌≤◌, ◌<◌, min, max}
 use mathlib.Core.Path.{◌≡◌, refl, sym, ◌∙◌, ap}
 use mathlib.Core.Bool.{Bool, true, false, cond, not}
 use Rattle.std.specs.Prelude.{Option, Some, None, unwrap_or, position}
@@ -17,7 +17,7 @@ use Rattle.laws.specs.Each.{get_or-each, length-each, each_by, get_or-replicate}
 use Rattle.laws.specs.Ranges.{each, some, first}
 use Rattle.laws.specs.Search.{some_none, some_not, at_first, at_end}
 use Rattle.tuning.specs.Table.{last_finetune, row_length, last_note, printed, entry, row_of, greatest_of, least_of}
-use Rattle.tuning.specs.Rules.{row_high}
+use Rattle.tuning.specs.Rules.{entry_none, row_high}
 use Rattle.tuning.specs.Tuned.{place_of, tuned, kept, semitones}
 use Rattle.tuning.specs.Ends.{ends_of}
 use Rattle.tuning.specs.declared.table.Ends.{Ends}
@@ -28,14 +28,10 @@ rows_printed : ROWS ≡ each row_of (suc last_finetune)
 unfolding each row_of entry printed
 rows_printed = refl
 
--- a finetune past the last has no row: its numbers read as 0
-no_entry : (f i : ℕ) → last_finetune < f → entry f i ≡ 0
-unfolding entry printed
-no_entry f i h = let past : length printed ≤ row_length * f + i = omega arith in get_or-eq_default printed 0 past
-
+-- a finetune past the last has no row
 no_row : (f : ℕ) → last_finetune < f → NO_ROW ≡ row_of f
 unfolding row_of
-no_row f h = each_by (entry f) row_length 0 NO_ROW refl (λ i l. get_or-replicate 0 row_length i ∙ sym (no_entry f i h))
+no_row f h = each_by (entry f) row_length 0 NO_ROW refl (λ i l. get_or-replicate 0 row_length i ∙ sym (entry_none f i (omega arith)))
 
 pub row_printed : (f : ℕ) → get_or ROWS f NO_ROW ≡ row_of f
 row_printed f = go (ltb last_finetune f) refl
@@ -97,7 +93,7 @@ ends_in_order : (f : ℕ) → least_of f ≤ greatest_of f
 ends_in_order f = go (ltb last_finetune f) refl
   where
     go : (b : Bool) → ltb last_finetune f ≡ b → least_of f ≤ greatest_of f
-    go true e = let h = ltb-true last_finetune f e in omega (arith, no_entry f last_note h)
+    go true e = let h = ltb-true last_finetune f e in omega (arith, entry_none f last_note (omega arith))
     go false e = row_high f last_note (ltb-false last_finetune f e) (omega arith)
 
 pub ends_by : (f : ℕ) (row : List ℕ) → row ≡ row_of f → record { first = get_or row 0 0; last = get_or row last_note 0 } ≡ ends_of f

@@ -1,19 +1,20 @@
 -- A finetune's periods are legal: its notes (`tuned_legal`), what is kept in its row (`kept_legal`), and semitones (`semitones_legal`). What is kept
 -- lies between the row's first and last entries (`kept_high`, `kept_low`).
 -- Assumes nothing.
-use Rattle.std.specs.Prelude.{ℕ, zero, suc, ◌+◌, ◌≤◌, min, Bool, eqb, ltb}
+use Rattle.std.specs.Prelude.{ℕ, zero, suc, ◌+◌, ◌≤◌, ◌<◌, ◌≡◌, refl, min, Bool, true, false, cond, eqb, ltb}
 use Rattle.std.proofs.Math.Nat.{le_refl}
 use Rattle.std.proofs.Common.{arith}
-use borrow.Author.Tests.{ltb-false}
+use borrow.Author.Tests.{lt-ltb, ltb-true, ltb-false}
 use Rattle.std.proofs.Common.{zero-le}
 use Rattle.laws.specs.Choice.{either}
 use Rattle.laws.specs.Ranges.{some, first}
 use Rattle.laws.specs.Numbers.{cond-le}
+use Rattle.common.specs.Limits.{greatest_period}
 use Rattle.common.specs.LimitFacts.{LegalPeriod}
 use Rattle.common.specs.LimitFacts.LegalPeriod.{sounding}
 use Rattle.tuning.specs.Table.{last_finetune, last_note, entry, greatest_of, least_of}
 use Rattle.tuning.specs.Tuned.{place_of, tuned, kept, semitones}
-use Rattle.tuning.specs.Rules.{entry_legal, row_high, row_low}
+use Rattle.tuning.specs.Rules.{entry_legal, entry_most, row_high, row_low}
 
 -- a search finds a place below its bound, or the bound
 first_most : (p : ℕ → Bool) (n : ℕ) → first p n ≤ n
@@ -62,3 +63,15 @@ module _ (f : ℕ) (h : f ≤ last_finetune) where
   kept_low n =
       either (λ (x : ℕ). least_of f ≤ x) (ltb (greatest_of f) n) _ _ (λ e. row_low f 0 h zero-le)
       (λ e. either (λ (x : ℕ). least_of f ≤ x) (ltb n (least_of f)) _ _ (λ q. le_refl (least_of f)) (λ q. ltb-false n (least_of f) q))
+
+-- numbers above every period are kept alike, so one may stand for the others
+pub kept_most : (f n most : ℕ) → greatest_period < most → kept f (min n most) ≡ kept f n
+unfolding kept
+kept_most f n most h = go (ltb most n) refl
+  where
+    go : (b : Bool) → ltb most n ≡ b → cond (ltb (greatest_of f) (min n most)) (greatest_of f) (cond (ltb (min n most) (least_of f)) (least_of f) (min n most)) ≡ cond (ltb (greatest_of f) n) (greatest_of f) (cond (ltb n (least_of f)) (least_of f) n)
+    go true e =
+        let g = entry_most f 0 in
+        let l = ltb-true most n e in
+        rw (lt-ltb (greatest_of f) (min n most) (omega arith), lt-ltb (greatest_of f) n (omega arith))
+    go false e = let same : min n most ≡ n = omega (arith, ltb-false most n e) in rw same

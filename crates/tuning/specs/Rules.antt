@@ -1,9 +1,10 @@
--- The rules of the printed numbers, each shown by one computed test over all of them. Every entry lies in 108 to 907 (`entry_legal`), and both are
--- printed (`least_printed`, `greatest_printed`): they are the least and the greatest. Rows fall (`row_falls`), so a row's first entry is its
+-- The rules of the printed numbers, each shown by one computed test over all of them. Every entry lies in 108 to 907 (`entry_legal`; past the table
+-- 0, `entry_none`, so that none is above, `entry_most`), and both are printed (`least_printed`, `greatest_printed`): they are the least and the greatest. Rows fall (`row_falls`), so a row's first entry is its
 -- greatest (`row_high`) and its last its least (`row_low`). A step at 74 or more stays below one byte (`voice/specs/Kept.antt: step_below`).
 -- Assumes nothing.
-use Rattle.std.specs.Prelude.{ℕ, zero, suc, ◌+◌, ◌-◌, ◌*◌, ◌%◌, ◌≤◌, ◌<◌, ◌≡◌, refl, Bool, true, false, ◌||◌, eqb, ltb, get_or}
-use Rattle.std.proofs.Common.{add-zero, zero-add, add-suc, le_refl, arith, ltb-true, ne_eqb}
+use Rattle.std.specs.Prelude.{ℕ, zero, suc, ◌+◌, ◌-◌, ◌*◌, ◌%◌, ◌≤◌, ◌<◌, ◌≡◌, refl, Bool, true, false, ◌||◌, eqb, ltb, length, get_or}
+use Rattle.std.proofs.Common.{add-zero, zero-add, add-suc, le_refl, arith, ltb-true, ltb-false, ne_eqb}
+use Rattle.std.proofs.Math.ListN.{get_or-eq_default}
 use Rattle.laws.specs.Ranges.{every}
 use Rattle.laws.specs.Every.{every_at}
 use Rattle.common.specs.Limits.{least_period, greatest_period, between}
@@ -25,6 +26,20 @@ all_sound = refl
 pub entry_legal : (f i : ℕ) → f ≤ last_finetune → i ≤ last_note → Between least_period greatest_period (entry f i)
 unfolding entry
 entry_legal f i h l = between_has least_period greatest_period _ (every_at sounds (row_length * f + i) printed_count all_sound (omega arith))
+
+-- past the table a number reads as 0
+pub entry_none : (f i : ℕ) → printed_count ≤ row_length * f + i → entry f i ≡ 0
+unfolding entry printed
+entry_none f i h = let past : length printed ≤ row_length * f + i = omega arith in get_or-eq_default printed 0 past
+
+-- so no entry of any row is above the greatest period
+pub entry_most : (f i : ℕ) → entry f i ≤ greatest_period
+unfolding entry
+entry_most f i = go (ltb (row_length * f + i) printed_count) refl
+  where
+    go : (b : Bool) → ltb (row_length * f + i) printed_count ≡ b → entry f i ≤ greatest_period
+    go true e = (between_has least_period greatest_period _ (every_at sounds (row_length * f + i) printed_count all_sound (ltb-true _ _ e))).high
+    go false e = omega (arith, entry_none f i (ltb-false _ _ e))
 
 -- ---- the least and the greatest are printed
 pub least_printed : entry 7 last_note ≡ least_period
