@@ -257,8 +257,7 @@ pub fn voice_of(cells: &[u32], at: usize) -> Voice
 fn channels_of(cells: &[u32; CELLS]) -> [Channel; WIDTH]
     ensures { result ≡ each (λ i. channel_of cells.now (channel_place i)) width }
 {
-    let channel = effects::fresh_channel();
-    let mut channels = [channel; WIDTH];
+    let mut channels = [Channel::default(); WIDTH];
     for i in 0..WIDTH {
         channels[i] = channel_of(cells, SONG_CELLS + CHANNEL_CELLS * i);
     }

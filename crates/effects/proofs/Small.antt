@@ -11,11 +11,10 @@ use Rattle.reader.specs.declared.Cell.{Cell}
 use Rattle.effects.specs.Small.{SmallChannel, Small}
 use Rattle.effects.specs.Untouched.{row_periods, row_numbers}
 use Rattle.effects.specs.Work.{latched_by, row_finetune, given_volume, row_volume, given_period, row_period, row_target, row_memory, row_channel, tick_volume, tick_period, tick_channel, worked}
-use Rattle.effects.specs.Starts.{start_for}
+use Rattle.effects.specs.Starts.{Start, start_for}
 use Rattle.effects.specs.Sounded.{sounded_period, sounded_volume}
 use Rattle.effects.specs.Commands.{command_of, voiced_by, voiced}
 use Rattle.effects.specs.declared.Channel.{Channel}
-use Rattle.effects.specs.declared.Start.{Start}
 
 module _ (c : Cell) (t : ℕ) (ch : Channel) (s : Start) (h : Spellable (command_of c t ch s)) where
   pub sample_fits : Fits w8 s.sample

@@ -24,11 +24,10 @@ use Rattle.reader.specs.declared.Cell.{Cell}
 use Rattle.effects.specs.Notes.{is_note}
 use Rattle.effects.specs.Wavering.{vibrates, trembles, row_place, row_form, row_wave}
 use Rattle.effects.specs.Work.{latched_by, given_finetune, row_finetune, given_volume, row_volume, given_period, row_period, row_target, row_memory, row_channel, tick_volume, tick_period, tick_channel, worked}
-use Rattle.effects.specs.Starts.{still, begun, again, note_start, effect_start, row_start, tick_start, start_for}
+use Rattle.effects.specs.Starts.{Start, still, begun, again, note_start, effect_start, row_start, tick_start, start_for}
 use Rattle.effects.specs.Sounded.{arpeggio, transposed, arpeggiated, sounded_period, sounded_volume}
 use Rattle.effects.specs.Commands.{command_of, after_sound, voiced_by, voiced}
 use Rattle.effects.specs.declared.Channel.{Channel}
-use Rattle.effects.specs.declared.Start.{Start}
 
 -- ---- periods and volumes
 smaller_le : (a n : ℕ) → min a n ≤ n

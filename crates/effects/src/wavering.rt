@@ -1,6 +1,7 @@
-// Which cells waver, and what a cell does to a channel's waves. Effects are written in hexadecimal; x and y are the parameter's two digits.
-ghost use Rattle.std.specs.Prelude.{◌≡◌, ◌<◌};
+// Which cells waver, and what a cell does to a channel's waves. x and y are the parameter's two digits.
+ghost use Rattle.std.specs.Prelude.{◌≡◌, ◌<◌, eqb};
 ghost use Rattle.motion.specs.Waves.{remembered};
+ghost use Rattle.effects.specs.Notes.{x, y};
 ghost use Rattle.effects.specs.Wavering.{vibrates, trembles, row_form, row_place, row_wave};
 ghost use Rattle.effects.specs.Untouched.{touches_waves};
 
@@ -10,66 +11,71 @@ use motion::waves::{SQUARE, remembered};
 use reader::Cell;
 
 // Effect 4, and 6, which runs it from memory.
+#[tactic(auto, unfolding(crate::specs::Wavering::vibrates))]
 pub fn vibrates(cell: Cell, t: u32) -> bool
     ensures { result ≡ vibrates cell t }
 {
-    (0 < t) & ((cell.effect == 0x04) | (cell.effect == 0x06))
+    0 < t && matches!(cell.effect, 0x04 | 0x06)
 }
 
+#[tactic(auto, unfolding(crate::specs::Wavering::trembles))]
 pub fn trembles(cell: Cell, t: u32) -> bool
     ensures { result ≡ trembles cell t }
 {
-    (0 < t) & (cell.effect == 0x07)
+    0 < t && cell.effect == 0x07
 }
 
 // Whether a cell does something to a channel's waves in its row.
+#[tactic(auto, unfolding(crate::specs::Untouched::touches_waves))]
 pub fn touches_waves(cell: Cell) -> bool
     ensures { result ≡ touches_waves cell }
 {
-    let note = is_note(cell);
-    note | (cell.effect == 0x04)
-        | (cell.effect == 0x07)
-        | (cell.effect == 0xE4)
-        | (cell.effect == 0xE7)
+    is_note(cell) || matches!(cell.effect, 0x04 | 0x07 | 0xE4 | 0xE7)
 }
 
-fn row_digit(given: bool, digit: u32, old: u8) -> u8
-    requires { digit < 256 }
-    ensures { result ≡ remembered given digit old }
+// The wave's x and y after the row's work.
+#[tactic(auto, using(crate::proofs::Cases::cases), unfolding(motion::specs::Waves::remembered))]
+fn row_digits(effect: u32, cell: Cell, wave: Wave) -> (u8, u8)
+    requires { cell.param < 256 }
+    ensures x { result.0 ≡ remembered (eqb cell.effect effect) (x cell) wave.x }
+    ensures y { result.1 ≡ remembered (eqb cell.effect effect) (y cell) wave.y }
 {
-    remembered(given, digit, old as u32) as u8
+    if cell.effect != effect {
+        return (wave.x, wave.y);
+    }
+    let x = remembered(cell.param / 16, u32::from(wave.x));
+    let y = remembered(cell.param % 16, u32::from(wave.y));
+    (x as u8, y as u8)
 }
 
+#[tactic(auto, using(crate::proofs::Cases::cases), unfolding(crate::specs::Wavering::row_place))]
 fn row_place(cell: Cell, place: u8) -> u8
     ensures { result ≡ row_place cell place }
 {
     if is_note(cell) { 0 } else { place }
 }
 
+#[tactic(auto, using(crate::proofs::Cases::cases), unfolding(crate::specs::Wavering::row_form))]
 fn row_form(choosing: u32, cell: Cell, form: u8) -> u8
     ensures { result ≡ row_form choosing cell form }
 {
-    let chosen = cell.param % 16 % 4;
-    if cell.effect == choosing {
-        if chosen < SQUARE {
-            chosen as u8
-        } else {
-            SQUARE as u8
-        }
-    } else {
-        form
+    if cell.effect != choosing {
+        return form;
     }
+    let chosen = cell.param % 16 % 4;
+    (chosen as u8).min(SQUARE)
 }
 
 // The wave of an effect after the row's work, with the effect that chooses its form.
+#[tactic(auto, unfolding(crate::specs::Wavering::row_wave))]
 pub fn row_wave(effect: u32, choosing: u32, cell: Cell, wave: Wave) -> Wave
-    requires param { cell.param < 256 }
+    requires { cell.param < 256 }
     ensures { result ≡ row_wave effect choosing cell wave }
 {
-    let given = cell.effect == effect;
+    let (x, y) = row_digits(effect, cell, wave);
     Wave {
-        x: row_digit(given, cell.param / 16, wave.x),
-        y: row_digit(given, cell.param % 16, wave.y),
+        x,
+        y,
         place: row_place(cell, wave.place),
         form: row_form(choosing, cell, wave.form),
     }

@@ -20,7 +20,6 @@ use Rattle.reader.specs.declared.Layout.{Layout}
 use Rattle.reader.specs.declared.Cell.{Cell}
 use Rattle.effects.specs.Commands.{voiced}
 use Rattle.effects.specs.Legal.{fresh_channel}
-use Rattle.effects.specs.LegalFacts.{LegalDepths}
 use Rattle.effects.specs.Small.{Small, channel_small}
 use Rattle.effects.specs.declared.Voiced.{Voiced}
 use Rattle.sequencer.specs.Row.{cell_on, row_flow, flow_through}
@@ -68,7 +67,6 @@ unfolding flow_through
 flow_again m at f₀ f g c i positions p w e q = rw (add-one, ← e, ← w, ← p) q
 
 -- ---- the channels' work, channel by channel
--- of a song with legal depths, whose channels stay small and whose commands can be spelled
 pub record Voicing (m : Module) (s : Song) (k : List ℕ) (all : AllVoiced) (i : ℕ) : Type 0 where
   pub worked : Parting (λ j. (voiced_on m s k j).channel) (λ j. get_or s.channels j fresh_channel) fresh_channel width all.channels i
   pub told : Parting (λ j. (voiced_on m s k j).command) (λ j. nothing) nothing width all.commands i
@@ -89,10 +87,6 @@ module _ (m : Module) (s : Song) (k : List ℕ) (all : AllVoiced) where
   pub voicing_end : (positions i : ℕ) → LegalSong positions m.layout s → Voicing m s k all i → channel_count m ≤ i → i ≤ channel_count m → all ≡ all_voiced m s k
   unfolding all_voiced
   voicing_end positions i z w l h = rw (part_end _ _ _ _ _ i (channel_count m) w.worked l h, same_parts (λ j. (voiced_on m s k j).channel) _ (channel_count m) _ (λ j. fresh_channel) width (λ j q. refl) z.rest, part_end _ _ _ _ _ i (channel_count m) w.told l h)
-
--- a channel of a legal song has legal depths
-pub song_depths : (positions : ℕ) (y : Layout) (s : Song) (i : ℕ) → LegalSong positions y s → i < y.channels → LegalDepths (get_or s.channels i fresh_channel)
-song_depths positions y s i l h = let c = l.channels i h in record { vibrato = c.vibrato.y; tremolo = c.tremolo.y }
 
 -- a channel and its command stay small, with the cell as it was read
 pub voicing_small : (y : Layout) (xs : List ℕ) (s : Song) (k : List ℕ) (i : ℕ) (at : Place) (c : Cell) → Small (voiced_on (lent y xs) s k i) → at ≡ s.course.at → c ≡ cell_on (lent y xs) at i → Small (voiced xs c s.time.tick (s.time.tick % s.time.speed) (get_or s.channels i fresh_channel) (get_or k i 0))

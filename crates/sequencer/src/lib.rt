@@ -11,7 +11,6 @@ ghost use Rattle.common.specs.ByteLaws.{Bytes};
 ghost use Rattle.reader.specs.Judge.{verdict};
 ghost use Rattle.reader.specs.Modules.{as_module};
 ghost use Rattle.effects.specs.Commands.{voiced};
-ghost use Rattle.effects.specs.LegalFacts.{LegalDepths};
 ghost use Rattle.effects.specs.Small.{Small};
 ghost use Rattle.reader.specs.Cells.{cell_from};
 ghost use Rattle.sequencer.specs.RowFacts.{BeginsAt};
@@ -134,7 +133,7 @@ impl Default for Song {
 
     #[tactic(auto, unfolding(crate::specs::Songs::fresh_song, laws::specs::Ranges::each))]
     fn default() -> Song {
-        let channels = [effects::fresh_channel(); WIDTH];
+        let channels = [Channel::default(); WIDTH];
         Song {
             course: Course::from_position(0),
             time: Time {
