@@ -1,23 +1,21 @@
 -- What the functions on bytes need, over plain variables.
 -- Assumes nothing.
-use mathlib.Core.Path.{◌≡◌, sym, ap, ◌∙◌}
-use mathlib.Core.List.{List}
-use Prim.Native.Nat.{ℕ, ◌+◌, ◌*◌, ◌/◌, ◌%◌, ◌≤◌, ◌<◌}
-use native.Mathlib.Omega.{arith}
-use native.Mathlib.Nat.{mod-lt, mod-eq_of_lt, add-mul-mod_self_right, div-eq_of_lt-le}
-use lib.Dec.{lit<}
-use lib.ListN.{length, get_or, get_or-eq_default}
+use Rattle.std.proofs.Common.{ℕ, ◌+◌, ◌/◌, ◌%◌, ◌≤◌, ◌≡◌, List, [], ◌∷◌, ◌++◌, length, take, drop, sym, ◌∙◌, arith}
+use Rattle.std.proofs.lemmas.List.{append_assoc, drop-drop}
+use Rattle.std.proofs.lemmas.List.Edits.{sets, sets-eq}
+use Rattle.common.specs.Bytes.{four_bytes}
 
--- past the end a byte reads as 0
-pub past_end : (xs : List ℕ) (i : ℕ) → length xs ≤ i → (0 ≡ get_or xs i 0) × (0 < 256)
-past_end xs i h = (sym (get_or-eq_default xs 0 h), omega arith)
+-- the four bytes of a number's lowest 32 bits
+pub four_lowest : (n m : ℕ) → m ≡ n % 4294967296 → m / 16777216 % 256 ∷ m / 65536 % 256 ∷ m / 256 % 256 ∷ m % 256 ∷ [] ≡ four_bytes n
+unfolding four_bytes
+four_lowest n m e =
+    let a : m / 16777216 % 256 ≡ n / 256 / 256 / 256 % 256 = omega arith in
+    let b : m / 65536 % 256 ≡ n / 256 / 256 % 256 = omega arith in
+    let c : m / 256 % 256 ≡ n / 256 % 256 = omega arith in
+    let d : m % 256 ≡ n % 256 = omega arith in
+    rw (a, b, c, d)
 
--- two bytes turned
-turn_by : (v h l : ℕ) → v ≡ h + l * 256 → h < 256 → l < 256 → v * 65537 / 256 % 65536 ≡ h * 256 + l
-turn_by v h l e p q = ap (λ (x : ℕ). x % 65536) half ∙ (add-mul-mod_self_right (h * 256 + l) l 65536 ∙ mod-eq_of_lt (omega arith))
-  where
-    half : v * 65537 / 256 ≡ h * 256 + l + l * 65536
-    half = div-eq_of_lt-le 256 (omega arith) (omega arith)
-
-pub turn : (a b h l : ℕ) → a ≡ h → b ≡ l → a < 256 → b < 256 → ((a + b * 256) * 65537 / 256 % 65536 ≡ h * 256 + l) × ((a + b * 256) * 65537 / 256 % 65536 < 65536)
-turn a b h l e q i j = (turn_by (a + b * 256) h l (omega arith) (omega arith) (omega arith), mod-lt ((a + b * 256) * 65537 / 256) (lit< tt))
+-- in a room, at a place
+pub four_put : (room new : List ℕ) (at k n : ℕ) → at + 4 ≤ length room → k ≡ 4 → new ≡ four_bytes n → take at room ++ (new ++ drop k (drop at room)) ≡ sets room at (four_bytes n)
+unfolding four_bytes
+four_put room new at k n l e q = rw (e, q, drop-drop 4 at room) (sym (append_assoc (take at room) (four_bytes n) (drop (at + 4) room)) ∙ sym (sets-eq (four_bytes n) room at l))

@@ -6,48 +6,36 @@ ghost use Rattle.common.specs.Bytes.{byte_at, word_at, four_at, four_bytes, bit}
 pub fn wide(x: u8) -> usize
     ensures { (result ≡ x) × (result < 256) }
 {
-    x as usize
-}
-
-pub fn wide32(x: u8) -> u32
-    ensures { (result ≡ x) × (result < 256) }
-{
-    x as u32
+    usize::from(x)
 }
 
 // The byte at a place, 0 past the end.
 pub fn byte(bytes: &[u8], at: usize) -> u32
     ensures { (result ≡ byte_at bytes.now at) × (result < 256) }
 {
-    if at < bytes.len() {
-        return wide32(bytes[at]);
-    }
-    0
+    bytes.get(at).map_or(0, |byte| u32::from(*byte))
 }
 
 pub fn word(bytes: &[u8], at: usize) -> usize
     requires { at + 1 < length bytes.now }
     ensures { (result ≡ word_at bytes.now at) × (result < 65536) }
 {
-    wide(bytes[at]) * 256 + wide(bytes[at + 1])
+    usize::from(u16::from_be_bytes([bytes[at], bytes[at + 1]]))
 }
 
-// Two bytes as a number, the high one first. Both are read at once, low one first, and the product turns them.
+// Two bytes as a number, the high one first.
 pub fn pair(high: u8, low: u8) -> u32
     ensures { (result ≡ high * 256 + low) × (result < 65536) }
 {
-    (wide32(high) + wide32(low) * 256) * 65537 / 256 % 65536
+    u32::from(u16::from_be_bytes([high, low]))
 }
 
+#[tactic(auto, unfolding(crate::specs::Bytes::four_at))]
 pub fn four(bytes: &[u8], at: usize) -> usize
     requires { at + 4 ≤ length bytes.now }
     ensures { (result ≡ four_at bytes.now at) × (result < 2 ^ 32) }
 {
-    let a = wide(bytes[at]);
-    let b = wide(bytes[at + 1]);
-    let c = wide(bytes[at + 2]);
-    let d = wide(bytes[at + 3]);
-    ((a * 256 + b) * 256 + c) * 256 + d
+    u32::from_be_bytes([bytes[at], bytes[at + 1], bytes[at + 2], bytes[at + 3]]) as usize
 }
 
 // Writes a number's four bytes at a place.
@@ -55,15 +43,13 @@ pub fn put_four(n: usize, at: usize, room: &mut [u8])
     requires { at + 4 ≤ length room.old }
     ensures { room.new ≡ sets room.old at (four_bytes n) }
 {
-    room[at] = (n / 256 / 256 / 256 % 256) as u8;
-    room[at + 1] = (n / 256 / 256 % 256) as u8;
-    room[at + 2] = (n / 256 % 256) as u8;
-    room[at + 3] = (n % 256) as u8;
+    let four = (n % (1 << 32)) as u32;
+    room[at..at + 4].copy_from_slice(&four.to_be_bytes());
 }
 
 // A flag as a number.
 pub fn bit_of(b: bool) -> u8
     ensures { (result ≡ bit b) × (result < 2) }
 {
-    if b { 1 } else { 0 }
+    u8::from(b)
 }
