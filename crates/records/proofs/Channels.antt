@@ -12,7 +12,7 @@ use lib.Seq.{drop-cons, get_or-take, sets, sets-eq, length-sets}
 use lib.Pow.{pow_pos, pow_mono}
 use borrow.Rule.Slice.PartMut.{post_of, Post-is}
 use lib.Count.{ones_step}
-use Rattle.std.specs.Int.{from_bool}
+use Rattle.std.specs.Int.{from_bool, to_be_bytes, w16}
 use Rattle.std.specs.Int.RustNames.{count_ones}
 use Rattle.laws.specs.Positions.{sets-append}
 use Rattle.common.specs.Limits.{width}
@@ -27,6 +27,14 @@ use Rattle.records.specs.Marked.{bit_bytes, marked_bytes, half}
 pub from_bool_bit : (b : Bool) → from_bool b ≡ bit b
 from_bool_bit true = refl
 from_bool_bit false = refl
+
+-- ---- a period's two bytes
+module _ (p : ℕ) (h : p < 2 ^ 16) where
+  pub period_high : get_or (to_be_bytes w16 p) 0 0 ≡ p / 256
+  period_high = omega arith
+
+  pub period_low : get_or (to_be_bytes w16 p) 1 0 ≡ p % 256
+  period_low = omega arith
 
 -- ---- the registers in use
 used_at : (rs : List Command) (c k : ℕ) → k < c → c ≤ length rs → drop k (take c rs) ≡ get_or rs k nothing ∷ drop (suc k) (take c rs)

@@ -1,11 +1,12 @@
--- The bytes that are copied are the command's.
+-- Six stores in a row are the run of the command's bytes.
 -- Assumes nothing.
-use mathlib.Core.Path.{refl}
-use borrow.Author.Rules.{rules}
-use Rattle.records.proofs.Channels.{put_part}
+use native.Mathlib.Omega.{arith}
+use native.Mathlib.Numerals.{towards_suc}
 use Rattle.records.specs.Format.{command_bytes}
+use Rattle.records.proofs.Channels.{from_bool_bit, period_high, period_low}
 use Rattle.records.proofs.put_command.Goals as goal
 
 pub returns : goal.returns
 unfolding command_bytes
-returns c = put_part _ _ (command_bytes c.args.c) _ c.requires.fits refl (search rules)
+returns c =
+    simp (c.from.ensures, c.to_be_bytes-period.ensures, from_bool_bit, period_high c.args.c.period (omega arith), period_low c.args.c.period (omega arith), towards_suc)

@@ -10,8 +10,8 @@ bounds-room-0 c = search (record_first, rules)
 pub bounds-room-1 : goal.bounds-room-1
 bounds-room-1 c = search (record_second, rules)
 
-pub put_commands-requires-clause-fits : goal.put_commands-requires-clause-fits
-put_commands-requires-clause-fits c = search (record_rest, rules)
+pub put_commands-requires : goal.put_commands-requires
+put_commands-requires c = search (record_rest, rules)
 
 pub shape_of-room : goal.shape_of-room
 shape_of-room c = search (record_same, rules)
