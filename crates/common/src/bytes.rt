@@ -23,13 +23,6 @@ pub fn word(bytes: &[u8], at: usize) -> usize
     usize::from(u16::from_be_bytes([bytes[at], bytes[at + 1]]))
 }
 
-// Two bytes as a number, the high one first.
-pub fn pair(high: u8, low: u8) -> u32
-    ensures { (result ≡ high * 256 + low) × (result < 65536) }
-{
-    u32::from(u16::from_be_bytes([high, low]))
-}
-
 #[tactic(auto, unfolding(crate::specs::Bytes::four_at))]
 pub fn four(bytes: &[u8], at: usize) -> usize
     requires { at + 4 ≤ length bytes.now }

@@ -1,18 +1,18 @@
 -- What the leaf functions need, over plain variables.
 -- Assumes nothing.
-use mathlib.Core.Path.{◌≡◌, refl}
-use mathlib.Core.Bool.{Bool, true, false, ◌||◌, ◌&&◌}
+use mathlib.Core.Path.{◌≡◌}
+use mathlib.Core.Bool.{false, ◌&&◌}
 use Prim.Native.Nat.{ℕ, ◌+◌, ◌*◌, ◌/◌, ◌%◌, ◌≤◌, ◌<◌}
 use native.Mathlib.Omega.{arith}
 use native.Mathlib.Nat.{mul-le-mul_right}
 use lib.Dec.{ltb}
-use borrow.Author.Tests.{lt-ltb, le-ltb, ne_eqb, ltb-true, ltb-false}
+use borrow.Author.Tests.{lt-ltb, le-ltb}
 use Rattle.laws.specs.Tests.{is_and_false, is_and_true, same_test}
 use mathlib.Core.List.{List}
 use Rattle.common.specs.Bytes.{four_at}
 use Rattle.reader.specs.File.{channels_of, tag_place, layout_for, layout_of}
 use Rattle.reader.specs.Layouts.{LegalLayout, layout_legal}
-use Rattle.common.specs.Limits.{width, least_cell_period, greatest_cell_period, bad_period}
+use Rattle.common.specs.Limits.{width}
 use Rattle.reader.specs.declared.Layout.{Layout}
 
 -- the first byte alone decides whether a sample number is above the last, which is one less than a multiple of 16
@@ -30,21 +30,6 @@ module _ (bytes : List ℕ) (tag c : ℕ) (ce : c ≡ channels_of tag) (te : tag
 
   pub tagged_legal : LegalLayout (layout_for 31 c)
   tagged_legal = layout_legal (layout_for 31 c) bytes tagged_layout
-
--- ---- the test that the code makes of a cell's first two bytes is the table's
-pub cell_test : (last b0 b1 b2 w z : ℕ) → (last + 1) % 16 ≡ 0 → b0 < 256 → b1 < 256 → b2 < 256 → w ≡ b0 * 256 + b1 → (last < w / 256 → greatest_cell_period < z) → (w / 256 ≤ last → z ≡ w % 4096) → bad_period z ≡ (ltb last (b0 / 16 * 16 + b2 / 16) || bad_period (b0 % 16 * 256 + b1))
-cell_test last b0 b1 b2 w z m h k l e high low = by (ltb last b0) refl
-  where
-    by : (t : Bool) → ltb last b0 ≡ t → bad_period z ≡ (ltb last (b0 / 16 * 16 + b2 / 16) || bad_period (b0 % 16 * 256 + b1))
-    by true q =
-        let g : last < b0 = ltb-true last b0 q in
-        let x : greatest_cell_period < z = high (omega arith) in
-        rw (lt-ltb last (b0 / 16 * 16 + b2 / 16) (omega arith), lt-ltb greatest_cell_period z x, ne_eqb z 0 (λ (y : z ≡ 0). omega arith), le-ltb z least_cell_period (omega arith))
-    by false q =
-        let g : b0 ≤ last = ltb-false last b0 q in
-        let x : z ≡ w % 4096 = low (omega arith) in
-        let y : z ≡ b0 % 16 * 256 + b1 = omega arith in
-        rw (le-ltb last (b0 / 16 * 16 + b2 / 16) (omega arith), y)
 
 -- ---- a header's loop
 pub loop_short : (again a l s : ℕ) → again ≡ a → again < 2 → false ≡ ltb 1 a && ltb l (s + a)

@@ -1,6 +1,6 @@
 // The cells of all patterns: refusals 8 and 9.
-ghost use Rattle.std.specs.Prelude.{◌≡◌, ◌+◌, ◌*◌, ◌/◌, ◌%◌, ◌≤◌, ◌<◌, IfSome, length};
-ghost use Rattle.common.specs.Limits.{greatest_cell_period};
+ghost use Rattle.std.specs.Prelude.{◌≡◌, ◌+◌, ◌*◌, ◌≤◌, ◌<◌, IfSome, length};
+ghost use Rattle.common.specs.Limits.{bad_period};
 ghost use Rattle.laws.specs.Ranges.{some};
 ghost use Rattle.reader.specs.Judge.{bad_at, bad_cell, bad_number_at};
 ghost use Rattle.reader.specs.Modules.{as_headed};
@@ -12,6 +12,12 @@ use crate::offsets::CELL_BYTES;
 use crate::search::first;
 use common::limits::{GREATEST_CELL_PERIOD, LEAST_CELL_PERIOD};
 
+fn is_bad_period(period: u32) -> bool
+    ensures { result ≡ bad_period period }
+{
+    (period != 0) & ((period < LEAST_CELL_PERIOD) | (period > GREATEST_CELL_PERIOD))
+}
+
 impl<'a> Headed<'a> {
     // Whether the cell's sample number is above the last. The first byte alone decides that.
     pub fn is_bad_number(&self, at: usize) -> bool
@@ -21,25 +27,13 @@ impl<'a> Headed<'a> {
         usize::from(self.file[at]) > self.layout.samples
     }
 
-    // The period, with a bit of the first byte's upper ones set where the sample number is above the last. Which bits these are is
-    // the layout's, so the test is made once for all cells.
-    fn seen(&self, both: u32) -> u32
-        requires { both < 65536 }
-        ensures { (self.now.layout.samples < both / 256 → greatest_cell_period < result) × (both / 256 ≤ self.now.layout.samples → result ≡ both % 4096) }
-    {
-        if self.layout.samples < 16 {
-            return both;
-        }
-        both % 4096 + both / 8192 * 8192
-    }
-
-    // Whether a cell is bad. For one cell at a time this is faster than the test of two at once.
+    #[tactic(auto, unfolding(crate::specs::Judge::bad_at, crate::specs::Judge::bad_period_at))]
     fn is_bad(&self, at: usize) -> bool
         requires { at + 3 < length self.now.file.now }
         ensures { result ≡ bad_at (as_headed self.now) at }
     {
-        let x = self.seen(common::bytes::pair(self.file[at], self.file[at + 1]));
-        (x != 0) & ((x < LEAST_CELL_PERIOD) | (x > GREATEST_CELL_PERIOD))
+        let period = u32::from(self.file[at] % 16) * 256 + u32::from(self.file[at + 1]);
+        self.is_bad_number(at) | is_bad_period(period)
     }
 
     // Whether one of the first n cells is bad: no cell's test decides whether the next is read. Each cell of the first half is tested at once

@@ -58,16 +58,12 @@ fn tag_of(file: &[u8]) -> u32
 fn channels_of(tag: u32) -> usize
     ensures { result ≡ channels_of tag }
 {
-    if (tag == TAG_MK) | (tag == TAG_4CHN) {
-        return 4;
+    match tag {
+        TAG_MK | TAG_4CHN => 4,
+        TAG_6CHN => 6,
+        TAG_8CHN => 8,
+        _ => 0,
     }
-    if tag == TAG_6CHN {
-        return 6;
-    }
-    if tag == TAG_8CHN {
-        return 8;
-    }
-    0
 }
 
 // The layout of a file of 31 samples, with as many channels as its tag names.
