@@ -14,9 +14,5 @@ pub fn clear(cells: usize, out: &mut [i16])
     requires { cells ≤ length out.old }
     ensures { out.new ≡ replicate cells (pos 0) ++ drop cells out.old }
 {
-    let mut i = 0;
-    while i < cells {
-        out[i] = 0;
-        i += 1;
-    }
+    out[..cells].fill(0);
 }

@@ -1,23 +1,39 @@
 // Scratch cells, one number a frame: one scratch added to another, and two woven into frames.
-ghost use Rattle.std.specs.Prelude.{◌+◌, ◌*◌, ◌≤◌, length};
+ghost use Rattle.std.specs.Prelude.{◌≡◌, ◌+◌, ◌*◌, ◌≤◌, length};
 ghost use Rattle.runs.specs.Cells.{stride, number_at, Narrow, sum_at, Roomy, Holds, Woven};
 
 use crate::FRAME_NUMBERS;
 
+// The numbers of one scratch, added to the first of another. (Of what a zip of `iter_mut` writes no proof knows more than the length.)
+pub fn add_to(to: &mut [i16], from: &[i16])
+    requires fits { length to.old ≤ length from.now }
+    requires room { Roomy from.now to.old (length to.old) }
+    ensures { Holds (sum_at to.old from.now) (length to.old) to.new }
+{
+    for (k, x) in to.iter_mut().enumerate() {
+        *x += from[k];
+    }
+}
+
+// Frames of two scratches: the numbers of one are left, and those of another right.
+pub fn interleave(left: &[i16], right: &[i16], out: &mut [i16])
+    requires { (length left.now ≤ length right.now) × (stride * length left.now ≤ length out.old) }
+    ensures { Woven (number_at left.now) (number_at right.now) 0 (length left.now) out.old out.new }
+{
+    for (k, x) in left.iter().enumerate() {
+        out[FRAME_NUMBERS * k] = *x;
+        out[FRAME_NUMBERS * k + 1] = right[k];
+    }
+}
+
 // The first cells of one, added to those of another.
+#[tactic(auto, unfolding(crate::specs::Cells::sum_at))]
 pub fn add(from: &[i16], count: usize, to: &mut [i16])
     requires fits { (count ≤ length from.now) × (count ≤ length to.old) }
     requires room { Roomy from.now to.old count }
     ensures sums { Holds (sum_at to.old from.now) count to.new }
 {
-    let mut k = 0;
-    while k < count {
-        let x = to[k];
-        let y = from[k];
-        let z = x + y;
-        to[k] = z;
-        k += 1;
-    }
+    add_to(&mut to[..count], from);
 }
 
 // Frames from one on: the first cells of one are left, and those of another right.
@@ -27,11 +43,9 @@ pub fn weave(left: &[i16], right: &[i16], count: usize, at: usize, out: &mut [i1
     requires fits { stride * (at + count) ≤ length out.old }
     ensures { Woven (number_at left.now) (number_at right.now) at count out.old out.new }
 {
-    let mut k = 0;
-    while k < count {
-        let cell = FRAME_NUMBERS * (at + k);
-        out[cell] = left[k];
-        out[cell + 1] = right[k];
-        k += 1;
-    }
+    interleave(
+        &left[..count],
+        &right[..count],
+        &mut out[FRAME_NUMBERS * at..FRAME_NUMBERS * (at + count)],
+    );
 }
