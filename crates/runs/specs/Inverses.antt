@@ -37,6 +37,10 @@ pub lasting_enough : (g : ℕ) → parts ≤ most_frames * g → parts ≤ lasti
 unfolding lasting
 lasting_enough g h = either (λ (n : ℕ). parts ≤ n * g) (ltb g quick) (together + together) together (λ _. h) (λ e. omega (arith, ltb-false g quick e))
 
+pub lasting_most : (g : ℕ) → lasting g ≤ most_frames
+unfolding lasting
+lasting_most g = either (λ n. n ≤ most_frames) (ltb g quick) (together + together) together (λ _. omega arith) (λ _. omega arith)
+
 -- i is the inverse of g; a line that grows by g stays in a byte for so many frames at most, and skips none
 pub record Inverse (g i : ℕ) : Type 0 where
   pub brief : parts ≤ most_frames * g

@@ -1,7 +1,9 @@
 -- Numbers written into neighbouring cells, in one go or in several, each of which may write over the cells behind its numbers.
 -- Assumes nothing.
-use Rattle.std.specs.Prelude.{◌≡◌, refl, Bool, true, false, List, ℕ, ◌+◌, ◌-◌, ◌≤◌, ◌<◌, ltb, length, get_or, set, ℤ, pos}
-use Rattle.std.proofs.Common.{sym, ap, ◌∙◌, arith, length-set, get_or-set_same, get_or-set_other, ltb-true, ltb-false}
+use Rattle.std.specs.Prelude.{◌≡◌, refl, Bool, true, false, List, ℕ, ◌+◌, ◌-◌, ◌≤◌, ◌<◌, ltb, length, get_or, replicate, set, ℤ, pos}
+use Rattle.std.proofs.Common.{sym, ap, ◌∙◌, rules, arith, length-set, get_or-set_same, get_or-set_other, ltb-true, ltb-false}
+use Rattle.std.proofs.lemmas.List.{places, get_or-replicate}
+use borrow.Rule.Slice.PartMut.{put_mid, mid_of}
 use Rattle.runs.specs.Cells.{Holds}
 
 -- how many cells are filled together
@@ -24,6 +26,24 @@ written_none f at old = record { long = refl; before = λ j _. refl; cells = λ 
 -- fewer of them, as another function has them
 pub written_as : (f g : ℕ → ℤ) (at n k : ℕ) (old new : List ℤ) → Written g at n old new → k ≤ n → ((j : ℕ) → j < k → g j ≡ f j) → Written f at k old new
 written_as f g at n k old new m h e = record { long = m.long; before = m.before; cells = λ j l. m.cells j (omega arith) ∙ e j l }
+
+-- into the part of k cells from `at` on
+pub written_part : (f : ℕ → ℤ) (at k n : ℕ) (old part : List ℤ) → at + k ≤ length old → n ≤ k → Written f 0 n (mid_of at k old) part → Written f at n old (put_mid at k old part)
+written_part f at k n old part h l m =
+    record {
+      long = grind (arith, places, m.long);
+      before = λ j i. grind (arith, places, m.long);
+      cells = λ j i. grind (arith, places, m.long, m.cells j i);
+    }
+
+-- n cells from `at` on, filled with y
+pub written_fill : (y : ℤ) (at n : ℕ) (old part : List ℤ) → at + n ≤ length old → part ≡ replicate n y → Written (λ _. y) at n old (put_mid at n old part)
+written_fill y at n old part h e =
+    record {
+      long = rw e (search (rules, places));
+      before = λ j l. rw e (grind (arith, places));
+      cells = λ j l. rw e (grind (arith, places, get_or-replicate));
+    }
 
 module _ (f : ℕ → ℤ) (at k : ℕ) (old mid : List ℤ) (m : Written f at k old mid) where
   -- up to n, by a second go from the k-th on

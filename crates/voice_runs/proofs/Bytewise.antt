@@ -1,19 +1,18 @@
 -- A line's numbers, byte by byte: which frames a byte has, and the loop over the bytes. Assumes nothing.
-use mathlib.Core.Path.{◌≡◌, refl, sym, ap, subst, ◌∙◌}
+use mathlib.Core.Path.{◌≡◌, refl, sym, ap, ◌∙◌}
 use mathlib.Core.List.{List}
-use Prim.Native.Nat.{ℕ, ◌+◌, ◌-◌, ◌*◌, ◌/◌, ◌^◌, ◌≤◌, ◌<◌}
-use native.Mathlib.Nat.{zero-mul, suc-mul, add-mul, mul-add-div_right, mul-le-mul, mul-le-mul_right, lt_of_mul-lt-mul_right}
+use Prim.Native.Nat.{ℕ, suc, ◌+◌, ◌-◌, ◌*◌, ◌/◌, ◌≤◌, ◌<◌}
+use native.Mathlib.Nat.{zero-add, zero-mul, suc-mul, add-mul, mul-le-mul, mul-le-mul_right, lt_of_mul-lt-mul_right}
 use native.Mathlib.Omega.{arith}
-use lib.ListN.{length, get_or}
+use lib.ListN.{length, take, get_or}
+use Rattle.std.proofs.Common.{length-take-le}
 use lib.IntN.{ℤ}
-use lib.Signed.{mag}
-use mir.Syntax.{w16, w64}
+use borrow.Rule.Slice.PartMut.{put_mid, mid_of}
+use mir.Syntax.{w64}
 use mir.Val.{Fits}
-use mir.ValLaws.{to_z-of_z}
-use Rattle.laws.specs.Signed.{sfits_below, back}
-use Rattle.runs.specs.Lines.{parts, byte_of, Line, quarter16}
-use Rattle.runs.specs.Written.{Written, written_none, written_as, written_more}
-use Rattle.runs.specs.Inverses.{unit, dividends, most_frames, lasting, lasting_enough, Inverse, product_low, quotient_low, quotient_high}
+use Rattle.runs.specs.Lines.{parts, byte_of, Line}
+use Rattle.runs.specs.Written.{Written, written_none, written_as, written_part, written_more}
+use Rattle.runs.specs.Inverses.{unit, dividends, most_frames, lasting, lasting_enough, lasting_most, Inverse, product_fits, quotient_low, quotient_high}
 use Rattle.voice_runs.specs.Runs.{product_of, weighed_at, piece}
 
 -- ---- which frames a byte has
@@ -43,117 +42,76 @@ module _ (from growth i m start next : ℕ) (v : Inverse growth i) (f : from < p
   byte_same : (j : ℕ) → start ≤ j → j < next → byte_of from growth j ≡ m
   byte_same j l k = omega (arith, mul-le-mul_right growth l, mul-le-mul_right growth k, suc-mul j growth)
 
--- ---- the cell at which a byte begins, in units, fits a word
-pub due_fits : (growth inverse at x : ℕ) → Inverse growth inverse → x < dividends → at ≤ piece → Fits w64 (at * unit + x * inverse)
-due_fits growth inverse at x v h l = record { fits = omega (arith, product_low growth inverse x v h) }
+-- ---- the loop: cell is the m-th byte's first frame, or the line's
+pub record Bytewise (bytes : List ℕ) (weight from growth inverse : ℕ) (old cells : List ℤ) (due cell m : ℕ) : Type 0 where
+  pub next : due ≡ reach from growth m * inverse
+  pub here : In from growth m cell
+  pub first : cell * growth < parts * m - from + growth
+  pub written : Written (weighed_at weight bytes from growth) 0 cell old cells
 
--- ---- the loop: a cell's frame is the first of the m-th byte, or of the line
-pub record Bytewise (bytes : List ℕ) (weight from growth inverse count : ℕ) (old : List ℤ) (at step end : ℕ) (cells : List ℤ) (due cell m : ℕ) : Type 0 where
-  pub line : Line bytes from growth count
-  pub pace : Inverse growth inverse
-  pub short : (weight ≤ 128) × (from < parts) × (at + count ≤ piece)
-  pub room : at + count + most_frames ≤ length cells
-  pub narrow : length cells * 2 < 2 ^ 63
-  pub steps : step ≡ parts * inverse
-  pub ends : end ≡ at + count
-  pub next : due ≡ at * unit + reach from growth m * inverse
-  pub start : ℕ
-  pub first : cell ≡ at + start
-  pub here : In from growth m start
-  pub written : Written (weighed_at weight bytes from growth) at start old cells
+-- the last byte that n frames reach
+abbrev pub reached_of : ℕ → ℕ → ℕ → ℕ
+reached_of from growth n = (from + (n - 1) * growth) / parts
 
-module _ (bytes : List ℕ) (weight from growth inverse count : ℕ) (old : List ℤ) (at step end : ℕ) where
-  pub bytewise_none : (due : ℕ) → Line bytes from growth count → Inverse growth inverse → weight ≤ 128 → from < parts → at + count ≤ piece → at + count + most_frames ≤ length old → length old * 2 < 2 ^ 63 → step ≡ parts * inverse → end ≡ at + count → due ≡ at * unit + (parts - from + growth - 1) * inverse → Bytewise bytes weight from growth inverse count old at step end old due at 0
-  bytewise_none due l v w f h r n s e d =
-      let z : parts - from + growth - 1 ≡ reach from growth 0 = omega arith in
+pub reached_long : (bytes : List ℕ) (from growth n : ℕ) → Line bytes from growth n → 0 < n → length (take (reached_of from growth n + 1) bytes) ≡ reached_of from growth n + 1
+reached_long bytes from growth n l z = length-take-le _ bytes (omega (arith, l.inside (n - 1) (omega arith)))
+
+module _ (bytes : List ℕ) (weight from growth inverse count : ℕ) (old : List ℤ) (v : Inverse growth inverse) (f : from < parts) (some : 0 < count) where
+  pub bytewise_none : Bytewise bytes weight from growth inverse old old ((parts - from + growth - 1) * inverse) 0 0
+  bytewise_none =
       record {
-        line = l;
-        pace = v;
-        short = (w, f, h);
-        room = r;
-        narrow = n;
-        steps = s;
-        ends = e;
-        next = d ∙ ap (λ x. at * unit + x * inverse) z;
-        start = 0;
-        first = omega arith;
+        next = ap (λ x. x * inverse) (let e : parts - from + growth - 1 ≡ reach from growth 0 = omega arith in e);
         here = (omega (arith, zero-mul growth), omega (arith, zero-mul growth));
-        written = written_none _ at old;
+        first = omega (arith, zero-mul growth, v.brief);
+        written = written_none _ 0 old;
       }
 
-  module _ (cells : List ℤ) (due cell m : ℕ) (b : Bytewise bytes weight from growth inverse count old at step end cells due cell m) (h : cell < end) where
-    start_before : b.start < count
-    start_before = omega (arith, b.first, b.ends)
+  module _ (short : count ≤ piece) (cells : List ℤ) (due cell m : ℕ) (b : Bytewise bytes weight from growth inverse old cells due cell m) where
+    module _ (h : m ≤ reached_of from growth count) where
+      pub cell_before : cell < count
+      cell_before =
+          let e : suc (count - 1) ≡ count = omega arith in
+          lt_of_mul-lt-mul_right growth (let l : cell * growth < count * growth = omega (arith, b.first, suc-mul (count - 1) growth, ap (λ n. n * growth) e) in l)
 
-    here_byte : byte_of from growth b.start ≡ m
-    here_byte = omega (arith, b.here)
+      reach_low : reach from growth m + parts < dividends
+      reach_low =
+          let l : count - 1 ≤ piece = omega arith in
+          let g : growth ≤ parts = omega (arith, v.slow) in
+          omega (arith, mul-le-mul l g, v.slow)
 
-    pub byte_inside : m < length bytes
-    byte_inside = rw here_byte at (b.line.inside b.start start_before)
+      -- so many frames on the next byte begins
+      next_cell : due / unit ≡ reach from growth m * inverse / unit
+      next_cell = ap (λ x. x / unit) b.next
 
-    start_low : b.start * growth ≤ piece * parts
-    start_low =
-        let l : b.start ≤ piece = omega (arith, start_before, b.short) in
-        let g : growth ≤ parts = omega (arith, b.pace.slow) in
-        omega (arith, mul-le-mul l g)
+      low : due / unit * growth ≤ reach from growth m
+      low = rw next_cell (quotient_low growth inverse (reach from growth m) v (omega (arith, reach_low)))
 
-    reach_low : reach from growth m + parts < dividends
-    reach_low = omega (arith, start_low, b.here, b.short, b.pace.slow)
+      high : reach from growth m < due / unit * growth + growth
+      high = rw next_cell (quotient_high growth inverse (reach from growth m) v (omega (arith, reach_low)))
 
-    pub byte_fits : Fits w64 (m + 1)
-    byte_fits = record { fits = omega (arith, reach_low) }
+      due_next : due + parts * inverse ≡ reach from growth (m + 1) * inverse
+      due_next =
+          let e : reach from growth m + parts ≡ reach from growth (m + 1) = omega arith in
+          ap (λ x. x + parts * inverse) b.next ∙ sym (add-mul (reach from growth m) parts inverse) ∙ ap (λ x. x * inverse) e
 
-    -- so many frames on the next byte begins
-    abbrev frame : ℕ
-    frame = reach from growth m * inverse / unit
+      pub next_fits : Fits w64 (due + parts * inverse)
+      next_fits = rw due_next (product_fits growth inverse (reach from growth (m + 1)) v (omega (arith, reach_low)))
 
-    next_cell : due / unit ≡ at + frame
-    next_cell = ap (λ x. x / unit) b.next ∙ mul-add-div_right (omega arith) at (reach from growth m * inverse)
+      pub bytewise_more : (r : ℤ) (part : List ℤ) → r ≡ product_of weight (get_or bytes m 0) → count + most_frames ≤ length cells → Written (λ _. r) 0 (lasting growth) (mid_of cell (length cells - cell) cells) part → Bytewise bytes weight from growth inverse old (put_mid cell (length cells - cell) cells part) (due + parts * inverse) (due / unit) (m + 1)
+      unfolding weighed_at
+      bytewise_more r part e room w =
+          record {
+            next = due_next;
+            here = next_in from growth inverse m cell (due / unit) v f b.here low high;
+            first = omega (arith, low);
+            written =
+                written_more _ 0 cell old cells b.written (λ _. r) (lasting growth) (due / unit) _
+                (rw (zero-add cell) (written_part _ cell (length cells - cell) (lasting growth) cells part (omega (arith, cell_before)) (omega (arith, cell_before, lasting_most growth)) w))
+                (next_near from growth inverse m cell (due / unit) v f b.here low high)
+                (λ j l k. e ∙ ap (λ i. product_of weight (get_or bytes i 0)) (sym (byte_same from growth inverse m cell (due / unit) v f b.here low high j l k)));
+          }
 
-    low : frame * growth ≤ reach from growth m
-    low = quotient_low growth inverse (reach from growth m) b.pace (omega (arith, reach_low))
-
-    high : reach from growth m < frame * growth + growth
-    high = quotient_high growth inverse (reach from growth m) b.pace (omega (arith, reach_low))
-
-    due_next : due + step ≡ at * unit + reach from growth (m + 1) * inverse
-    due_next =
-        let e : reach from growth m + parts ≡ reach from growth (m + 1) = omega arith in
-        let s : reach from growth m * inverse + parts * inverse ≡ reach from growth (m + 1) * inverse = sym (add-mul (reach from growth m) parts inverse) ∙ ap (λ x. x * inverse) e in
-        omega (arith, s, b.next, b.steps)
-
-    pub next_fits : Fits w64 (due + step)
-    next_fits = rw due_next (due_fits growth inverse at (reach from growth (m + 1)) b.pace (omega (arith, reach_low)) (omega (arith, b.short)))
-
-    pub next_less : end - due / unit < end - cell
-    next_less = omega (arith, next_cell, b.first, next_later from growth inverse m b.start frame b.pace b.short.1 b.here low high)
-
-    pub bytewise_more : (r : ℤ) (new : List ℤ) → r ≡ product_of weight (get_or bytes m 0) → mag r < quarter16 → Written (λ _. back r) cell (lasting growth) cells new → Bytewise bytes weight from growth inverse count old at step end new (due + step) (due / unit) (m + 1)
-    unfolding weighed_at
-    bytewise_more r new e small w =
-        record {
-          line = b.line;
-          pace = b.pace;
-          short = b.short;
-          room = omega (arith, b.room, w.long);
-          narrow = omega (arith, b.narrow, w.long);
-          steps = b.steps;
-          ends = b.ends;
-          next = due_next;
-          start = frame;
-          first = next_cell;
-          here = next_in from growth inverse m b.start frame b.pace b.short.1 b.here low high;
-          written =
-              written_more _ at b.start old cells b.written (λ _. back r) (lasting growth) frame new (subst (λ i. Written (λ _. back r) i (lasting growth) cells new) b.first w) (next_near from growth inverse m b.start frame b.pace b.short.1 b.here low high)
-              (λ j l k. to_z-of_z w16 r (sfits_below w16 small tt) ∙ e ∙ ap (λ i. product_of weight (get_or bytes i 0)) (sym (byte_same from growth inverse m b.start frame b.pace b.short.1 b.here low high j l k)));
-        }
-
-  module _ (cells : List ℤ) (due cell m : ℕ) (b : Bytewise bytes weight from growth inverse count old at step end cells due cell m) where
-    pub cell_room : cell < end → cell + most_frames ≤ length cells
-    cell_room h = omega (arith, b.ends, b.room)
-
-    pub bytewise_end : end ≤ cell → Written (weighed_at weight bytes from growth) at count old cells
-    bytewise_end h = written_as _ _ at b.start count old cells b.written (omega (arith, b.ends, b.first)) (λ j _. refl)
-
-    pub bytewise_long : length cells ≡ length old
-    bytewise_long = b.written.long
+    pub bytewise_end : reached_of from growth count < m → Written (weighed_at weight bytes from growth) 0 count old cells
+    bytewise_end h =
+        let l : count - 1 < cell = lt_of_mul-lt-mul_right growth (let k : (count - 1) * growth < cell * growth = omega (arith, b.here) in k) in
+        written_as _ _ 0 cell count old cells b.written (omega arith) (λ j _. refl)

@@ -1,7 +1,8 @@
 -- A voice's next frames as a line through its sample's bytes. Assumes nothing.
 use mathlib.Core.Path.{◌≡◌, refl, sym, ap, ap₂, subst, ◌∙◌}
+use mathlib.Core.List.{[]}
 use mathlib.Core.Bool.{Bool, true, false, cond}
-use Prim.Native.Nat.{ℕ, zero, suc, ◌+◌, ◌-◌, ◌*◌, ◌/◌, ◌%◌, ◌≤◌, ◌<◌}
+use Prim.Native.Nat.{ℕ, zero, suc, min, ◌+◌, ◌-◌, ◌*◌, ◌/◌, ◌%◌, ◌≤◌, ◌<◌}
 use native.Mathlib.Nat.{suc-mul, zero-mul, mul-zero, le-div_iff_mul-le, mul-le-mul_right, lt_of_mul-lt-mul_right}
 use native.Mathlib.Omega.{arith}
 use borrow.Author.Tests.{lt-ltb, le-ltb, ltb-true, ltb-false}
@@ -9,13 +10,13 @@ use lib.Dec.{T, ltb}
 use lib.ListN.{get_or, drop}
 use lib.Seq.{get_or-drop}
 use lib.IntN.{pos, ◌*ℤ◌, zero-*ℤ, *ℤ-zero}
-use mir.Syntax.{w32}
+use mir.Syntax.{w32, w64}
 use mir.Val.{Fits}
 use Rattle.laws.specs.Tests.{or_parts}
 use Rattle.laws.specs.Choice.{either}
 use Rattle.common.specs.LimitFacts.{LegalPeriod}
 use Rattle.common.specs.LimitFacts.LegalPeriod.{silent, sounding}
-use Rattle.runs.specs.Lines.{parts}
+use Rattle.runs.specs.Lines.{parts, half64}
 use Rattle.runs.specs.Inverses.{unit, dividends, most_frames, Inverse, inverse_is, quotient_low, quotient_high}
 use Rattle.reader.specs.declared.Extent.{Extent}
 use Rattle.reader.specs.Samples.{Sample}
@@ -26,7 +27,7 @@ use Rattle.voice.specs.Frames.{steps_of, gives_at}
 use Rattle.voice.specs.LegalFacts.{LegalSound}
 use Rattle.voice.specs.Kept.{silent_steps, silent_gives, loud_has, loud_period, loud_index, loud_fraction, growth_small}
 use Rattle.voice_runs.specs.declared.line.Pace.{Pace}
-use Rattle.voice_runs.specs.Runs.{sound_at, Span, limit_of, longest, ahead_of, weight_of, land_of, Follows, Paced}
+use Rattle.voice_runs.specs.Runs.{sound_at, Span, limit_of, longest, ahead_of, weight_of, land_of, Follows, quiet_of, line_growth, Paced}
 
 -- ---- how far a run goes: n is the way to the limit, rounded up to whole frames
 way_low : (from growth limit : ℕ) → growth < parts → limit ≤ longest * fractions → limit - from + growth - 1 < dividends
@@ -45,11 +46,8 @@ module _ (bytes fraction growth inverse left n : ℕ) (v : Inverse growth invers
   far : (j : ℕ) → j < n → fraction + j * growth < bytes * fractions
   far j l = omega (arith, low, mul-le-mul_right growth l, suc-mul j growth)
 
-  pub span_short : n < left → Span fraction growth (bytes * fractions) left n
-  span_short l = record { some = some; most = omega arith; below = far }
-
-  pub span_left : left ≤ n → 0 < left → Span fraction growth (bytes * fractions) left left
-  span_left l z = record { some = z; most = omega arith; below = λ j i. far j (omega arith) }
+  pub span_is : 0 < left → Span fraction growth (bytes * fractions) left (min n left)
+  span_is z = record { some = omega (arith, some); most = omega arith; below = λ j i. far j (omega arith) }
 
 -- ---- where it ends
 limit_above : (i end : ℕ) → i < end → i < limit_of i end
@@ -67,15 +65,6 @@ limit_head i end h = rw (lt-ltb i 2 h) (either (λ x. x ≤ 2) (ltb end 2) end 2
 
 pub limit_past : (i end lim : ℕ) → i < end → lim ≡ limit_of i end → i ≤ lim
 limit_past i end lim h e = omega (arith, limit_above i end h)
-
-module _ (i end lim : ℕ) (e : lim ≡ limit_of i end) where
-  pub ahead_near : lim - i < longest → lim - i ≡ ahead_of i end
-  unfolding ahead_of
-  ahead_near h = rw (← e) (omega arith)
-
-  pub ahead_far : longest ≤ lim - i → longest ≡ ahead_of i end
-  unfolding ahead_of
-  ahead_far h = rw (← e) (omega arith)
 
 ahead_is : (i end : ℕ) → i < end → (0 < ahead_of i end) × (ahead_of i end ≤ longest) × (i + ahead_of i end ≤ limit_of i end)
 unfolding ahead_of
@@ -220,22 +209,48 @@ follows_loud x v left growth count bytes l loud q slow e m =
       after = λ b j i. run_lands (sample_with b x) v l loud growth q left count n j i;
     }
 
--- ---- what a landing asks for
-module _ (end : ℕ) (v : Voice) (l : LegalSound end v) (loud : silent_of v ≡ false) (last : ℕ) (below : silent_of v ≡ false → v.index + last / fractions < end) where
-  pub land_fits : Fits w32 end → Fits w32 (v.index + last / fractions)
-  land_fits f = record { fits = omega (arith, below loud, f.fits) }
+-- ---- a voice's next run
+module _ (x : Extent) (v : Voice) (p : Pace) (l : LegalSound x.end v) where
+  pub run_silent : (left : ℕ) → silent_of v ≡ true → 0 < left → Follows x v (quiet_of v) (line_growth v p) left
+  unfolding quiet_of line_growth
+  run_silent left h z = rw h (follows_silent x v left l h z)
 
-  pub land_legal : (w : Voice) → w ≡ placed_at (v.index + last / fractions) (last % fractions) v → LegalSound end w
-  land_legal w e =
-      rw e (record { volume = l.volume; period = l.period; stopped = λ q. absurd (subst T (sym q) tt); running = λ _. ((l.running (loud_has v loud).0).0, (below loud, omega arith)) })
+  pub run_sounds : (from left count bytes : ℕ) → silent_of v ≡ false → Paced v.period p → from ≡ v.fraction → bytes ≡ ahead_of v.index x.end → Span from p.growth (bytes * fractions) left count → Follows x v (quiet_of v) (line_growth v p) count
+  unfolding quiet_of line_growth
+  run_sounds from left count bytes loud q z e m = rw loud (follows_loud x v left p.growth count bytes l loud q.growth q.slow e (subst (λ f. Span f p.growth (bytes * fractions) left count) z m))
 
-  pub land_is : (s : Sample) (w r : Voice) → w ≡ placed_at (v.index + last / fractions) (last % fractions) v → r ≡ step_of s w → r ≡ land_of s last v
-  unfolding land_of
-  land_is s w r e z = rw loud (z ∙ ap (step_of s) e)
+-- ---- after it: its last frame is before the end, and the voice takes its step from there
+module _ (x : Extent) (v : Voice) (p : Pace) (n : ℕ) (m : Follows x v (quiet_of v) (line_growth v p) n) (loud : silent_of v ≡ false) (f : ℕ) (e : f ≡ v.fraction) where
+  growth_is : line_growth v p ≡ p.growth
+  unfolding line_growth
+  growth_is = rw loud
 
-pub land_silent : (s : Sample) (last : ℕ) (v : Voice) → silent_of v ≡ true → v ≡ land_of s last v
-unfolding land_of
-land_silent s last v h = rw h
+  last_low : f + (n - 1) * p.growth < half64
+  last_low = rw (e, ← growth_is) (let k : n - 1 ≤ n = omega arith in omega (arith, m.low, mul-le-mul_right (line_growth v p) k))
 
-pub land_rate : (i f g : ℕ) (v w : Voice) → w ≡ placed_at i f v → g ≡ growth_of v.period → g ≡ growth_of w.period
-land_rate i f g v w e q = q ∙ ap (λ (x : Voice). growth_of x.period) (sym e)
+  pub last_product : Fits w64 ((n - 1) * p.growth)
+  last_product = record { fits = omega (arith, last_low) }
+
+  pub last_place : Fits w64 (f + (n - 1) * p.growth)
+  last_place = record { fits = omega (arith, last_low) }
+
+  pub last_past : Fits w32 (f + (n - 1) * p.growth)
+  last_past = record { fits = last_low }
+
+  last_before : v.index + (f + (n - 1) * p.growth) / fractions < x.end
+  last_before = rw (e, ← growth_is) (m.before (n - 1) (omega (arith, m.some)) loud)
+
+  pub last_fits : Fits w32 x.end → Fits w32 (v.index + (f + (n - 1) * p.growth) / fractions)
+  last_fits i = record { fits = omega (arith, last_before, i.fits) }
+
+  module _ (w : Voice) (q : w ≡ placed_at (v.index + (f + (n - 1) * p.growth) / fractions) ((f + (n - 1) * p.growth) % fractions) v) where
+    pub last_legal : LegalSound x.end v → LegalSound x.end w
+    last_legal l =
+        rw q (record { volume = l.volume; period = l.period; stopped = λ q. absurd (subst T (sym q) tt); running = λ _. ((l.running (loud_has v loud).0).0, (last_before, omega arith)) })
+
+    pub last_steps : (r : Voice) → r ≡ step_of (sample_with [] x) w → r ≡ steps_of (sample_with [] x) n v
+    unfolding land_of
+    last_steps r z =
+        let one : suc (n - 1) ≡ n = omega (arith, m.some) in
+        let lands : steps_of (sample_with [] x) (suc (n - 1)) v ≡ step_of (sample_with [] x) (placed_at (v.index + (f + (n - 1) * p.growth) / fractions) ((f + (n - 1) * p.growth) % fractions) v) = rw (e, ← growth_is) (rw loud at (m.after [] (n - 1) (omega (arith, m.some)))) in
+        z ∙ ap (step_of (sample_with [] x)) q ∙ sym lands ∙ ap (λ i. steps_of (sample_with [] x) i v) one

@@ -1,6 +1,6 @@
 -- Runs: a voice's next frames as a line through its sample's bytes, up to its sample's end; and what is written of them into cells.
 -- Assumes nothing.
-use Rattle.std.specs.Prelude.{◌≡◌, Bool, false, cond, List, ℕ, suc, ◌+◌, ◌-◌, ◌*◌, ◌/◌, ◌%◌, ◌≤◌, ◌<◌, min, ltb, get_or, drop, ℤ, pos, ◌*ℤ◌}
+use Rattle.std.specs.Prelude.{◌≡◌, Bool, false, cond, List, ℕ, suc, ◌+◌, ◌-◌, ◌*◌, ◌/◌, ◌%◌, ◌≤◌, ◌<◌, min, ltb, nat_lt, ◌||◌, get_or, drop, ℤ, pos, ◌*ℤ◌}
 use Rattle.runs.specs.Lines.{half64, byte_of}
 use Rattle.runs.specs.Written.{Written}
 use Rattle.runs.specs.Inverses.{most_frames, inverse_of}
@@ -54,6 +54,14 @@ pub record Follows (x : Extent) (v : Voice) (quiet : Bool) (growth count : ℕ) 
   pub before : (j : ℕ) → j < count → silent_of v ≡ false → v.index + byte_of v.fraction growth j < x.end
   pub gives : (bytes : List ℕ) (j : ℕ) → j < count → gives_at (sample_with bytes x) v j ≡ sound_at (drop v.index bytes) v.fraction growth j *ℤ pos (weight_of quiet v.volume)
   pub after : (bytes : List ℕ) (j : ℕ) → j < count → steps_of (sample_with bytes x) (suc j) v ≡ land_of (sample_with bytes x) (v.fraction + j * growth) v
+
+-- a voice's next run is quiet, each of its bytes counting as 0, where the voice is silent and in bytes 0 and 1
+unfoldable pub quiet_of : Voice → Bool
+quiet_of v = silent_of v || nat_lt v.index 2
+
+-- by how much the run's line grows
+unfoldable pub line_growth : Voice → Pace → ℕ
+line_growth v p = cond (silent_of v) 0 p.growth
 
 -- ---- what is written of it
 -- a byte read as signed, times a weight

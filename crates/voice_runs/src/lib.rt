@@ -1,24 +1,24 @@
 // Voices in runs: up to its sample's end a voice is a line through bytes, and its numbers are written byte by byte into cells, or passed by.
 #![tactic(auto)]
 
-ghost use Rattle.std.specs.Prelude.{◌≡◌, [], ◌+◌, ◌*◌, ◌<◌, ◌≤◌, length};
+ghost use Rattle.std.specs.Prelude.{◌≡◌, [], ◌+◌, ◌<◌, ◌≤◌, length};
 ghost use Rattle.common.specs.LimitFacts.{LegalPeriod};
 ghost use Rattle.runs.specs.Cells.{Holds};
 ghost use Rattle.voice.specs.Modules.{sample_with};
 ghost use Rattle.voice.specs.Frames.{steps_of};
 ghost use Rattle.voice.specs.LegalFacts.{LegalSound, LoopInside};
-ghost use Rattle.voice_runs.specs.Runs.{piece, spare, Paced, one_at, Spread};
+ghost use Rattle.voice_runs.specs.Runs.{piece, spare, Paced, one_at};
 
-use crate::bytes::fill_run;
 use crate::inverses::inverse;
 pub use crate::line::Pace;
-use crate::line::{after, follow};
+pub use crate::runner::Runner;
 use reader::Extent;
 use voice::Voice;
 
 mod bytes;
 mod inverses;
 mod line;
+mod runner;
 
 // Frames are spread in pieces of at most so many.
 pub const PIECE: usize = 1024;
@@ -35,51 +35,6 @@ pub fn pace(period: u16) -> Pace
     Pace {
         growth,
         inverse: inverse(growth as usize),
-    }
-}
-
-// One voice after a number of frames.
-#[derive(Clone, Copy)]
-struct Single {
-    voice: Voice,
-    frames: usize,
-}
-
-// Some of the frames that are left, of a voice at a weight, written into the cells from `at` on.
-fn spread_run(
-    bytes: &[u8],
-    voice: Voice,
-    extent: Extent,
-    pace: Pace,
-    weight: u32,
-    left: usize,
-    cells: &mut [i16],
-    at: usize,
-) -> Single
-    requires legal { LegalSound extent.end voice }
-    requires pace { Paced voice.period pace }
-    requires whole { (extent.end ≤ length bytes.now) × (0 < length bytes.now) }
-    requires fits { (weight ≤ 128) × (0 < left) × (at + left ≤ piece) × (at + left + spare ≤ length cells.old) }
-    ensures { Spread bytes.now extent voice weight left at cells.old cells.new result.voice result.frames }
-{
-    let line = follow(voice, extent, pace, left);
-    let n = line.count;
-    let i = voice.index as usize;
-    let from = voice.fraction as usize;
-    fill_run(
-        &bytes[i..],
-        line.quiet,
-        weight,
-        from,
-        line.growth,
-        pace.inverse,
-        n,
-        cells,
-        at,
-    );
-    Single {
-        voice: after(voice, extent, pace.growth, line, n),
-        frames: n,
     }
 }
 
@@ -102,15 +57,12 @@ pub fn spread(
     ensures numbers { Holds (one_at times (sample_with bytes.now extent) voice) frames cells.new }
     ensures long { length cells.new ≡ length cells.old }
 {
-    let weight = voice.volume as u32 * times;
-    let mut v = voice;
-    let mut k = 0;
-    while k < frames {
-        let run = spread_run(bytes, v, extent, pace, weight, frames - k, cells, k);
-        v = run.voice;
-        k += run.frames;
-    }
-    v
+    let runner = Runner {
+        voice,
+        extent,
+        pace,
+    };
+    runner.spread(bytes, times, frames, cells)
 }
 
 // The voice after the next frames, which nobody hears. No byte of the sample is read.
@@ -120,13 +72,10 @@ pub fn pass(voice: Voice, extent: Extent, pace: Pace, frames: usize) -> Voice
     requires pace { Paced voice.period pace }
     ensures { result ≡ steps_of (sample_with [] extent) frames voice }
 {
-    let mut v = voice;
-    let mut k = 0;
-    while k < frames {
-        let line = follow(v, extent, pace, frames - k);
-        let n = line.count;
-        v = after(v, extent, pace.growth, line, n);
-        k += n;
-    }
-    v
+    let runner = Runner {
+        voice,
+        extent,
+        pace,
+    };
+    runner.pass(frames)
 }

@@ -1,42 +1,23 @@
 -- The loop goes byte by byte: when a byte's number is written, the next byte begins no later than the cells that it was written into end.
-use borrow.Author.Rules.{rules}
-use native.Mathlib.Omega.{arith}
-use Rattle.runs.specs.Inverses.{product_fits}
-use Rattle.voice_runs.proofs.Bytewise.{due_fits, bytewise_none, byte_inside, byte_fits, next_fits, next_less, bytewise_more, cell_room, bytewise_end, bytewise_long}
+use Rattle.std.proofs.Common.{◌+◌, ◌<◌, ap, ◌∙◌, rules, arith}
+use Rattle.std.proofs.lemmas.List.{get_or-take}
+use Rattle.voice_runs.specs.Runs.{product_of}
+use Rattle.voice_runs.proofs.Bytewise.{reached_of, reached_long, next_fits, bytewise_more, bytewise_end}
 use Rattle.voice_runs.proofs.bytes.fill_line.Goals as goal
 
-pub overflow_mul-step : goal.overflow_mul-step
-overflow_mul-step c = search (product_fits, rules)
+pub overflow_add-due-in-loop-byte : goal.overflow_add-due-in-loop-byte
+overflow_add-due-in-loop-byte c =
+    let e = reached_long _ _ _ _ c.requires.line (omega arith) in
+    next_fits _ _ _ _ _ c.args.count _ c.requires.pace (omega arith) (omega arith) (omega arith) _ _ _ _ c.loop-byte.invariant (omega arith)
 
-pub overflow_mul-due-2 : goal.overflow_mul-due-2
-overflow_mul-due-2 c = product_fits _ _ _ c.requires.pace (omega arith)
-
-pub overflow_add-due-2 : goal.overflow_add-due-2
-overflow_add-due-2 c = due_fits _ _ _ _ c.requires.pace (omega arith) (omega arith)
-
-pub loop-cell-init : goal.loop-cell-init
-loop-cell-init c = search (bytewise_none, rules)
-
-pub bounds-bytes-m : goal.bounds-bytes-m
-bounds-bytes-m c = search (byte_inside, rules)
-
-pub fill_byte-requires : goal.fill_byte-requires
-fill_byte-requires c = search (cell_room, rules)
-
-pub overflow_add-due-in-loop-cell : goal.overflow_add-due-in-loop-cell
-overflow_add-due-in-loop-cell c = search (next_fits, rules)
-
-pub overflow_add-m : goal.overflow_add-m
-overflow_add-m c = search (byte_fits, rules)
-
-pub loop-cell-smaller : goal.loop-cell-smaller
-loop-cell-smaller c = search (next_less, rules)
-
-pub loop-cell-preserved : goal.loop-cell-preserved
-loop-cell-preserved c = search (bytewise_more, rules)
-
-pub shape_of-cells : goal.shape_of-cells
-shape_of-cells c = search (bytewise_long, rules)
+pub loop-byte-preserved : goal.loop-byte-preserved
+loop-byte-preserved c =
+    let e = reached_long _ _ _ _ c.requires.line (omega arith) in
+    let h : c.loop-byte.byte-index < reached_of c.args.from c.args.pace.growth c.args.count + 1 = omega arith in
+    let v = c.weighed.ensures.value ∙ ap (λ b. product_of c.args.weight b) (get_or-take _ c.args.bytes.now _ 0 h) in
+    bytewise_more _ _ _ _ _ c.args.count _ c.requires.pace (omega arith) (omega arith) (omega arith) _ _ _ _ c.loop-byte.invariant (omega arith) _ _ (search (v, rules)) (omega arith) c.fill_byte.ensures
 
 pub returns : goal.returns
-returns c = search (bytewise_end, rules)
+returns c =
+    let e = reached_long _ _ _ _ c.requires.line (omega arith) in
+    bytewise_end _ _ _ _ _ _ _ c.requires.pace (omega arith) (omega arith) (omega arith) _ _ _ _ c.loop-byte.invariant (omega arith)
