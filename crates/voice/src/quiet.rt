@@ -7,7 +7,7 @@ use crate::Voice;
 // Why a voice gives 0 in the next frame, the first that holds; or that it sounds.
 #[derive(Clone, Copy)]
 pub enum Cause {
-    NoSample,
+    NoSample = 1,
     NoPeriod,
     Stopped,
     NoVolume,
@@ -16,50 +16,45 @@ pub enum Cause {
 }
 
 // A cause's number.
+impl From<Cause> for usize {
+    ghost from_gives = { λ cause n. n ≡ cause_number cause };
+
+    fn from(cause: Cause) -> usize {
+        cause as usize
+    }
+}
+
+// A cause's number.
 pub fn cause_number(cause: Cause) -> usize
     ensures { result ≡ cause_number cause }
 {
-    match cause {
-        Cause::NoSample => 1,
-        Cause::NoPeriod => 2,
-        Cause::Stopped => 3,
-        Cause::NoVolume => 4,
-        Cause::ZeroByte => 5,
-        Cause::Sounds => 6,
-    }
+    usize::from(cause)
 }
 
 // Whether the byte at an index reads 0.
+#[tactic(auto, unfolding(crate::specs::Quiet::reads_zero))]
 fn reads_zero(bytes: &[u8], index: usize) -> bool
     ensures { result ≡ reads_zero bytes.now index }
 {
-    if index < 2 {
-        return true;
-    }
-    if bytes.len() <= index {
-        return true;
-    }
-    bytes[index] == 0
+    index < 2 || bytes.get(index).copied().unwrap_or(0) == 0
 }
 
 // Why the voice is quiet, of its sample's bytes.
+#[tactic(auto, unfolding(crate::specs::Quiet::cause_of))]
 pub fn why(voice: Voice, bytes: &[u8]) -> Cause
     ensures { result ≡ cause_of bytes.now voice }
 {
     if voice.sample == 0 {
-        return Cause::NoSample;
+        Cause::NoSample
+    } else if voice.period == 0 {
+        Cause::NoPeriod
+    } else if voice.stopped {
+        Cause::Stopped
+    } else if voice.volume == 0 {
+        Cause::NoVolume
+    } else if reads_zero(bytes, voice.index as usize) {
+        Cause::ZeroByte
+    } else {
+        Cause::Sounds
     }
-    if voice.period == 0 {
-        return Cause::NoPeriod;
-    }
-    if voice.stopped {
-        return Cause::Stopped;
-    }
-    if voice.volume == 0 {
-        return Cause::NoVolume;
-    }
-    if reads_zero(bytes, voice.index as usize) {
-        return Cause::ZeroByte;
-    }
-    Cause::Sounds
 }

@@ -2,7 +2,7 @@
 -- the fraction's test is the definition's, and after it the fraction is again below 65,536.
 use Rattle.laws.specs.Tests.{tests, called}
 use Rattle.voice.specs.Voice.{step_of}
-use Rattle.voice.proofs.Voices.{index_fits, step_on, step_over}
+use Rattle.voice.proofs.Voices.{step_on, step_over}
 use Rattle.std.proofs.Common.{rules}
 use Rattle.voice.proofs.Voice.step.Goals as goal
 
@@ -10,11 +10,8 @@ pub returns-then-silent : goal.returns-then-silent
 unfolding step_of
 returns-then-silent c = search (tests, called, rules)
 
-pub returns-then-f-lt-FRACTIONS : goal.returns-then-f-lt-FRACTIONS
-returns-then-f-lt-FRACTIONS c = search (step_on, called, rules)
+pub returns-then-fraction-lt-FRACTIONS : goal.returns-then-fraction-lt-FRACTIONS
+returns-then-fraction-lt-FRACTIONS c = search (step_on, called, rules)
 
-pub overflow_add-index : goal.overflow_add-index
-overflow_add-index c = search (index_fits, called, rules)
-
-pub returns : goal.returns
-returns c = search (step_over, called, rules)
+pub returns-else-fraction-lt-FRACTIONS : goal.returns-else-fraction-lt-FRACTIONS
+returns-else-fraction-lt-FRACTIONS c = search (step_over, called, rules)

@@ -1,9 +1,6 @@
--- The same tests, joined in the same order.
-use Rattle.laws.specs.Ranges.{all, all_from}
-use Rattle.voice.specs.Legal.{is_fresh_voice}
-use Rattle.std.proofs.Common.{rules}
+-- The fresh voice's fields are those that the definition asks for.
+use Rattle.voice.proofs.AllLegal.{fresh_by_fields}
 use Rattle.voice.proofs.legal.is_fresh_voice.Goals as goal
 
 pub returns : goal.returns
-unfolding is_fresh_voice all all_from
-returns c = search rules
+returns c = fresh_by_fields _ _ (rw c.default.ensures at c.eq.ensures)
