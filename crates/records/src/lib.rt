@@ -2,17 +2,15 @@
 // Arrays have room for WIDTH channels, of which a stream has so many; the others are never written.
 #![tactic(auto)]
 
-ghost use Rattle.std.specs.Prelude.{◌≡◌, ◌+◌, ◌*◌, ◌≤◌, ◌<◌, length, take};
+ghost use Rattle.std.specs.Prelude.{◌≡◌, ◌+◌, ◌*◌, ◌≤◌, length, take};
 ghost use Rattle.std.proofs.lemmas.List.Edits.{sets};
 ghost use Rattle.common.specs.Limits.{width};
-ghost use Rattle.common.specs.Bytes.{bit};
-ghost use Rattle.ticks.specs.Legal.{Spellable};
 ghost use Rattle.ticks.specs.Play.{over};
-ghost use Rattle.records.specs.LegalLaws.{AllSpellable, SpellableTick};
-ghost use Rattle.records.specs.Format.{records_place, head_bytes, body_bytes, version, at_first, changed, mask, command_bytes, channel_bytes, channels_bytes, record_bytes, stream_header};
-ghost use Rattle.records.specs.Marked.{bit_bytes, marked_bytes};
+ghost use Rattle.records.specs.LegalLaws.{SpellableTick};
+ghost use Rattle.records.specs.Format.{records_place, head_bytes, body_bytes, version, at_first, changed, mask, command_bytes, record_bytes, stream_header};
+ghost use Rattle.records.specs.Marked.{marked_bytes};
 
-use common::bytes::{bit_of, put_four};
+use common::bytes::put_four;
 use common::limits::WIDTH;
 use ticks::{Command, Tick};
 
