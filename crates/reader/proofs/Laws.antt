@@ -1,13 +1,11 @@
 -- What the leaf functions need, over plain variables.
 -- Assumes nothing.
 use mathlib.Core.Path.{◌≡◌}
-use mathlib.Core.Bool.{false, ◌&&◌}
 use Prim.Native.Nat.{ℕ, ◌+◌, ◌*◌, ◌/◌, ◌%◌, ◌≤◌, ◌<◌}
 use native.Mathlib.Omega.{arith}
 use native.Mathlib.Nat.{mul-le-mul_right}
 use lib.Dec.{ltb}
-use borrow.Author.Tests.{lt-ltb, le-ltb}
-use Rattle.laws.specs.Tests.{is_and_false, is_and_true, same_test}
+use Rattle.laws.specs.Tests.{same_test}
 use mathlib.Core.List.{List}
 use Rattle.common.specs.Bytes.{four_at}
 use Rattle.reader.specs.File.{channels_of, tag_place, layout_for, layout_of}
@@ -30,10 +28,3 @@ module _ (bytes : List ℕ) (tag c : ℕ) (ce : c ≡ channels_of tag) (te : tag
 
   pub tagged_legal : LegalLayout (layout_for 31 c)
   tagged_legal = layout_legal (layout_for 31 c) bytes tagged_layout
-
--- ---- a header's loop
-pub loop_short : (again a l s : ℕ) → again ≡ a → again < 2 → false ≡ ltb 1 a && ltb l (s + a)
-loop_short again a l s e h = is_and_false _ _ (le-ltb 1 a (omega arith))
-
-pub loop_long : (again a start s words l : ℕ) → again ≡ a → 2 ≤ again → start ≡ s → words ≡ l → ltb words (start + again) ≡ (ltb 1 a && ltb l (s + a))
-loop_long again a start s words l e h q r = is_and_true _ _ _ (lt-ltb 1 a (omega arith)) (cc)

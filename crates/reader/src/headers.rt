@@ -88,16 +88,13 @@ impl<'a> Headed<'a> {
         })
     }
 
-    #[tactic(auto, unfolding(crate::specs::Judge::bad_loop), using(crate::proofs::Laws::loop_short, crate::proofs::Laws::loop_long))]
+    #[tactic(auto, unfolding(crate::specs::Judge::bad_loop), using(laws::specs::Tests::tests))]
     fn is_bad_loop(&self, k: usize) -> bool
         requires { k < sample_count (as_headed self.now) }
         ensures { result ≡ bad_loop (as_headed self.now) k }
     {
         let again = self.header_word(k, LOOP_LENGTH_AT);
-        if again < 2 {
-            return false;
-        }
-        self.header_word(k, LOOP_START_AT) + again > self.header_word(k, LENGTH_AT)
+        again > 1 && self.header_word(k, LOOP_START_AT) + again > self.header_word(k, LENGTH_AT)
     }
 
     // The first header whose loop leaves its sample.

@@ -67,7 +67,7 @@ fn channels_of(tag: u32) -> usize
 }
 
 // The layout of a file of 31 samples, with as many channels as its tag names.
-#[tactic(auto, using(crate::proofs::Laws::tagged_layout, crate::proofs::Laws::tagged_legal))]
+#[tactic(auto, using(crate::proofs::Laws::tagged_legal))]
 pub fn layout_of(file: &[u8]) -> Layout
     ensures value { result ≡ layout_of file.now }
     ensures legal_layout { LegalLayout result }

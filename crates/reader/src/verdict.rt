@@ -16,7 +16,7 @@ use common::limits::ROWS;
 use common::refusals::{Refusal, Rule};
 
 // Refusals 8 and 9: the first bad cell decides.
-#[tactic(auto, using(crate::proofs::Table::refused_8, crate::proofs::Table::refused_9, crate::proofs::Table::refused_none))]
+#[tactic(auto, unfolding(crate::specs::Judge::cell_lines, common::specs::Answers::refusing), using(crate::specs::Search::found_some, crate::specs::Search::found_not))]
 fn judge_cells(headed: &Headed, n: usize) -> Result<(), Refusal>
     requires { headed.now.layout.patterns + 4 * n ≤ length headed.now.file.now }
     ensures { judged result ≡ refusing refused (accepted 0) (cell_lines (as_headed headed.now) n) }
@@ -32,7 +32,7 @@ fn judge_cells(headed: &Headed, n: usize) -> Result<(), Refusal>
 }
 
 // Refusals 7 to 9. The first bad cell is looked for only if there is one.
-#[tactic(auto, using(crate::proofs::Table::refused_7, crate::proofs::Table::refused_cells, crate::proofs::Table::refused_clean))]
+#[tactic(auto, unfolding(crate::specs::Judge::rest_lines, crate::specs::Judge::cell_lines, crate::specs::File::sample_place, common::specs::Answers::refusing), using(laws::specs::Tests::tests))]
 fn judge_rest(headed: &Headed) -> Result<(), Refusal>
     ensures { judged result ≡ refusing refused (accepted 0) (rest_lines (as_headed headed.now)) }
 {
@@ -49,7 +49,7 @@ fn judge_rest(headed: &Headed) -> Result<(), Refusal>
 }
 
 // Whether the bytes are a module of this layout: the first refusal of the table, with its place.
-#[tactic(auto, using(crate::proofs::Table::refused_1, crate::proofs::Table::refused_2, crate::proofs::Table::refused_3, crate::proofs::Table::refused_rest))]
+#[tactic(auto, unfolding(crate::specs::Judge::verdict, common::specs::Answers::refusing), using(crate::specs::Search::found_some, crate::specs::Search::found_not, laws::specs::Tests::tests))]
 pub fn judge_by(layout: Layout, file: &[u8]) -> Result<(), Refusal>
     requires { LegalLayout layout }
     ensures { judged result ≡ verdict (lent layout file.now) }
@@ -77,6 +77,7 @@ pub fn judge_by(layout: Layout, file: &[u8]) -> Result<(), Refusal>
 }
 
 // Whether the bytes are a module: the first refusal of the table, with its place.
+#[tactic(auto, unfolding(crate::specs::Judge::judge_of))]
 pub fn judge(file: &[u8]) -> Result<(), Refusal>
     ensures { judged result ≡ judge_of file.now }
 {
