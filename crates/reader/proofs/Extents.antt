@@ -41,12 +41,12 @@ pub record Listed (m : Module) (table : List Extent) (from k : ℕ) : Type 0 whe
   pub at : from ≡ sample_place m k
   pub small : from ≤ 530000 + 131070 * k
 
-pub listed_begin : (m : Module) (table : List Extent) (n from : ℕ) → table ≡ replicate sample_numbers no_extent → n ≡ patterns_of m → from ≡ sample_behind m n 0 → from ≤ 530000 → Listed m table from 0
+pub listed_begin : (m : Module) (table : List Extent) (x : Extent) (n from : ℕ) → table ≡ replicate sample_numbers x → x ≡ no_extent → n ≡ patterns_of m → from ≡ sample_behind m n 0 → from ≤ 530000 → Listed m table from 0
 unfolding sample_place extent_of
-listed_begin m table n from t e q l =
+listed_begin m table x n from t z e q l =
     record {
       low = omega arith;
-      filled = rw t (record { long = refl; done = first; rest = λ k h. get_or-replicate no_extent sample_numbers k });
+      filled = rw (t, z) (record { long = refl; done = first; rest = λ k h. get_or-replicate no_extent sample_numbers k });
       at = rw (← e) q;
       small = omega arith;
     }
@@ -74,4 +74,4 @@ listed_again m table from k x y w l p =
 pub listed_end : (m : Module) (table : List Extent) (from k : ℕ) → Listed m table from k → sample_count m ≤ k → table ≡ extents_of m
 listed_end m table from k w h = part_end (extent_of m) no_extent sample_numbers table (λ i. no_extent) (k + 1) (sample_count m + 1) w.filled (omega arith) (omega (arith, w.low))
 
-pub ruleset listing = (refl, listed_begin, listed_again, listed_end)
+pub ruleset listing = (refl, listed_again, listed_end)

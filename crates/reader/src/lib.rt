@@ -41,7 +41,7 @@ pub struct Cell {
 
 // Where a sample's bytes lie in the file; and, counted from its first byte, its end and its loop's first byte.
 // `looped` stands beside `first`, as in the definitions and theorems that name both: `extent_of`, `Inside`, `sample_with`.
-#[derive(Clone, Copy)]
+#[derive(Clone, Copy, Default)]
 pub struct Extent {
     pub from: usize,
     pub to: usize,

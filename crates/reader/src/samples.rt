@@ -67,14 +67,7 @@ impl<'a> Headed<'a> {
     pub fn extents(&self) -> [Extent; SAMPLE_NUMBERS]
         ensures { result ≡ extents_of (as_headed self.now) }
     {
-        let none = Extent {
-            from: 0,
-            to: 0,
-            end: 0,
-            looped: false,
-            first: 0,
-        };
-        let mut table = [none; SAMPLE_NUMBERS];
+        let mut table = [Extent::default(); SAMPLE_NUMBERS];
         let mut from = self.sample_behind(self.pattern_count(), 0);
         for k in 0..self.layout.samples {
             let x = self.extent(from, k);
