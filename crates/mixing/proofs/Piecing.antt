@@ -3,20 +3,23 @@
 use mathlib.Core.Path.{◌≡◌, refl, sym, ap, ap₂, subst, ◌∙◌}
 use mathlib.Core.Bool.{Bool, true, false, cond}
 use mathlib.Core.List.{List}
-use Prim.Native.Nat.{ℕ, zero, suc, ◌+◌, ◌-◌, ◌*◌, ◌<◌}
+use Prim.Native.Nat.{ℕ, zero, suc, ◌+◌, ◌-◌, ◌*◌, ◌<◌, ◌≤◌}
 use native.Mathlib.Nat.{add_comm}
 use native.Mathlib.Omega.{arith}
 use borrow.Author.Tests.{eqb-true, ne_eqb, eq-eqb}
 use lib.Dec.{eqb}
-use lib.ListN.{length, get_or}
+use lib.ListN.{length, get_or, take, length-take}
+use borrow.Rule.Slice.PartMut.{mid_of, put_mid}
 use lib.IntN.{ℤ, pos, ◌+ℤ◌, ◌*ℤ◌}
 use Rattle.std.specs.Prelude.{min}
 use Rattle.std.specs.Int.{div_ceil}
+use Rattle.std.proofs.Common.{get_or-take}
 use Rattle.std.proofs.lemmas.Grind.{div_ceil_times}
+use Rattle.std.proofs.lemmas.List.{places}
 use Rattle.laws.specs.Choice.{either}
 use Rattle.common.specs.Limits.{width}
 use Rattle.common.specs.LimitFacts.{LegalPeriod}
-use Rattle.runs.specs.Cells.{Woven}
+use Rattle.runs.specs.Cells.{Woven, number_at, stride}
 use Rattle.runs.specs.CellLaws.{woven_none, woven_as, woven_more}
 use Rattle.reader.specs.declared.Extent.{Extent}
 use Rattle.voice.specs.declared.Voice.{Voice}
@@ -130,6 +133,24 @@ module _ (file : List ℕ) (xs : List Extent) (vs : List Voice) (c : ℕ) (s : S
     later_side : (times side j : ℕ) → side_at file xs w times side c j ≡ side_at file xs vs times side c (k + j)
     unfolding side_at given_by
     later_side times side j = ap (λ (z : ℤ). z *ℤ pos times) (sum_side _ _ side c (λ i h _. ap (gives_of (cut_of file (extent_at xs i)).bytes) (further_on j i h)))
+
+-- frames woven into a part of the cells, from frame `at` on
+module _ (left right : List ℤ) (at n : ℕ) (old new : List ℤ) (l : n ≤ length left) (r : n ≤ length right) (fits : stride * (at + n) ≤ length old) (m : Woven (number_at (take n left)) (number_at (take n right)) 0 (length (take n left)) (mid_of (stride * at) (stride * (at + n) - stride * at) old) new) where
+  front : (xs : List ℤ) (j : ℕ) → j < n → number_at (take n xs) j ≡ number_at xs j
+  front xs j h = get_or-take n xs j (pos 0) h
+
+  long : length new ≡ stride * n
+  long = m.same ∙ grind (arith, places)
+
+  pub woven_mid : Woven (number_at left) (number_at right) at n old (put_mid (stride * at) (stride * (at + n) - stride * at) old new)
+  woven_mid =
+      record {
+        same = grind (arith, places, long);
+        left = λ j h. grind (arith, places, long, m.left j (omega (arith, length-take n left)), front left j h);
+        right = λ j h. grind (arith, places, long, m.right j (omega (arith, length-take n left)), front right j h);
+        before = λ i h. grind (arith, places, long);
+        after = λ i h. grind (arith, places, long);
+      }
 
 -- ---- the loop: k frames are mixed
 pub record Piecing (file : List ℕ) (xs : List Extent) (vs : List Voice) (times c : ℕ) (out₀ out : List ℤ) (w : List Voice) (k : ℕ) : Type 0 where

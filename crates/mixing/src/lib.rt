@@ -23,7 +23,7 @@ use reader::{Extent, Layout};
 use runs::FRAME_NUMBERS;
 use ticks::Command;
 use voice::Voice;
-use voice_runs::Pace;
+use voice_runs::{Pace, Runner};
 
 mod pieces;
 mod side;
@@ -116,7 +116,7 @@ pub fn mix(
     let marks = named(channels, &extents, &commands);
     tell(channels, &marks, &commands, &mut voices);
     if quiet(channels, &voices) {
-        runs::clear(FRAME_NUMBERS * frames, out);
+        out[..FRAME_NUMBERS * frames].fill(0);
         return voices;
     }
     let mix = Mix {
@@ -147,7 +147,7 @@ pub fn mix_into(
     let extents = named(channels, &m.extents, commands);
     tell(channels, &extents, commands, voices);
     if quiet(channels, voices) {
-        runs::clear(FRAME_NUMBERS * frames, out);
+        out[..FRAME_NUMBERS * frames].fill(0);
         return;
     }
     let mix = Mix {
@@ -202,6 +202,11 @@ pub fn pass_by(m: &Module, voices: &mut [Voice; WIDTH], commands: &[Command; WID
         let command = commands[i];
         let extent = m.extents[usize::from(command.sample)];
         let told = voices[i].told(command, extent);
-        voices[i] = pass_voice(extent, told, frames);
+        let runner = Runner {
+            voice: told,
+            extent,
+            pace: voice_runs::pace(told.period),
+        };
+        voices[i] = runner.pass(frames);
     }
 }

@@ -6,6 +6,7 @@ ghost use Rattle.mixing.specs.Mixes.{Mixable, side_in, later_in};
 
 use crate::side::{CELLS, Mix, Side};
 use common::limits::WIDTH;
+use runs::FRAME_NUMBERS;
 use voice::Voice;
 use voice_runs::PIECE;
 
@@ -46,7 +47,11 @@ impl Mix<'_> {
             &mut scratch.right,
             &mut scratch.further,
         );
-        runs::scratch::weave(&scratch.left, &scratch.right, frames, at, out);
+        runs::scratch::interleave(
+            &scratch.left[..frames],
+            &scratch.right[..frames],
+            &mut out[FRAME_NUMBERS * at..FRAME_NUMBERS * (at + frames)],
+        );
     }
 
     // All frames into the front of out, and the voices after them.

@@ -1,17 +1,17 @@
 // A side of a piece: the first channel that sounds on it is spread into the side's cells, and each further one added to them.
-ghost use Rattle.std.specs.Prelude.{◌≡◌, ◌<◌, ◌≤◌, get_or, unwrap_or, IfSome};
+ghost use Rattle.std.specs.Prelude.{◌≡◌, ◌+◌, ◌<◌, ◌≤◌, length, get_or, unwrap_or, IfSome};
 ghost use Rattle.common.specs.Limits.{width};
 ghost use Rattle.common.specs.ByteLaws.{Bytes};
 ghost use Rattle.runs.specs.Cells.{Holds, Narrow};
 ghost use Rattle.voice.specs.Frames.{steps_of, side_of};
 ghost use Rattle.voice.specs.Range.{LegalSides};
-ghost use Rattle.voice_runs.specs.Runs.{one_at, piece, Paced};
+ghost use Rattle.voice_runs.specs.Runs.{one_at, piece, spare, Paced};
 ghost use Rattle.mixing.specs.Sides.{number_of, Voiced, extent_at, no_pace, sounds_of, Next};
 
 use common::limits::WIDTH;
 use reader::Extent;
 use voice::Voice;
-use voice_runs::{PIECE, Pace, SPARE};
+use voice_runs::{PIECE, Pace, Runner, SPARE};
 
 // The cells of a piece's side.
 pub const CELLS: usize = PIECE + SPARE;
@@ -80,12 +80,13 @@ impl Mix<'_> {
         ensures numbers { Holds (one_at self.now.times (sample_of self.now i) voice) frames cells.new }
     {
         let extent = self.extents[i];
-        let bytes = &self.file[extent.from..extent.to];
-        voice_runs::spread(
-            bytes,
+        let runner = Runner {
             voice,
             extent,
-            self.paces[i],
+            pace: self.paces[i],
+        };
+        runner.spread(
+            &self.file[extent.from..extent.to],
             self.times,
             frames,
             cells,
@@ -106,16 +107,17 @@ impl Mix<'_> {
         ensures moved { voices.new ≡ sided_in self.now voices.old frames (number_of on) }
         ensures numbers { Holds (side_in self.now voices.old (number_of on)) frames cells.new }
         ensures narrow { Narrow cells.new frames }
+        ensures long { length cells.new ≡ piece + spare }
     {
         let Some(first) = self.next(on, 0, voices) else {
-            runs::clear(frames, cells);
+            cells[..frames].fill(0);
             return;
         };
         voices[first] = self.sound(first, voices[first], frames, cells);
         let mut next = self.next(on, first + 1, voices);
         while let Some(i) = next {
             voices[i] = self.sound(i, voices[i], frames, further);
-            runs::scratch::add(further, frames, cells);
+            runs::scratch::add_to(&mut cells[..frames], further);
             next = self.next(on, i + 1, voices);
         }
     }

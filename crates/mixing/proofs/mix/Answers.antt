@@ -1,5 +1,6 @@
 -- No voice sounds: the frames are zeros. Otherwise the pieces together are the frames, and the voices after them all that moved.
 use native.Mathlib.Omega.{arith}
+use borrow.Author.Rules.{rules}
 use Rattle.laws.specs.Tests.{called}
 use Rattle.mixing.proofs.Piecing.{sounding_period}
 use Rattle.mixing.proofs.Mixing.{scale_legal, told_sounding, pieces_moved, pieces_mixed, silent_moved, silent_mixed}
@@ -9,7 +10,7 @@ pub returns-then-quiet-clause-moved : goal.returns-then-quiet-clause-moved
 returns-then-quiet-clause-moved c = silent_moved _ _ _ _ _ c.requires.layout c.requires.ready _ _ c.named-marks.ensures c.tell.ensures (called _ _ _ c.quiet.ensures c.if-quiet.true) _
 
 pub returns-then-quiet-clause-mixed : goal.returns-then-quiet-clause-mixed
-returns-then-quiet-clause-mixed c = silent_mixed _ _ _ _ _ c.requires.layout c.requires.ready _ _ c.named-marks.ensures c.tell.ensures (called _ _ _ c.quiet.ensures c.if-quiet.true) _ _ _ c.clear.ensures
+returns-then-quiet-clause-mixed c = silent_mixed _ _ _ _ _ c.requires.layout c.requires.ready _ _ c.named-marks.ensures c.tell.ensures (called _ _ _ c.quiet.ensures c.if-quiet.true) c.args.frames c.args.out.now _ (search rules)
 
 pub paces_of-requires-clause-by_index : goal.paces_of-requires-clause-by_index
 paces_of-requires-clause-by_index c = sounding_period _ _ _ _ (told_sounding _ _ _ _ _ c.requires.layout c.requires.ready _ _ c.named-marks.ensures c.tell.ensures)
