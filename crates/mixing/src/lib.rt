@@ -166,8 +166,12 @@ fn pass_voice(extent: Extent, voice: Voice, frames: usize) -> Voice
     requires legal { LegalSound extent.end voice }
     ensures { result ≡ steps_of (sample_with [] extent) frames voice }
 {
-    let pace = voice_runs::pace(voice.period);
-    voice_runs::pass(voice, extent, pace, frames)
+    let runner = Runner {
+        voice,
+        extent,
+        pace: voice_runs::pace(voice.period),
+    };
+    runner.pass(frames)
 }
 
 // The voices after a number of frames that nobody hears. No byte of the file is read.
