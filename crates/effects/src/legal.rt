@@ -18,7 +18,7 @@ pub fn legal_channel(last: u32, channel: Channel) -> bool
     ensures { result ≡ legal_channel last channel }
 {
     u32::from(channel.latched) <= last
-        && u32::from(channel.finetune) <= LAST_FINETUNE
+        && channel.finetune <= LAST_FINETUNE
         && u32::from(channel.volume) <= LOUDEST
         && is_period(u32::from(channel.period))
         && is_period(u32::from(channel.target))

@@ -1,5 +1,5 @@
 // Which cells waver, and what a cell does to a channel's waves. x and y are the parameter's two digits.
-ghost use Rattle.std.specs.Prelude.{◌≡◌, ◌<◌, eqb};
+ghost use Rattle.std.specs.Prelude.{◌≡◌, eqb};
 ghost use Rattle.motion.specs.Waves.{remembered};
 ghost use Rattle.effects.specs.Notes.{x, y};
 ghost use Rattle.effects.specs.Wavering.{vibrates, trembles, row_form, row_place, row_wave};
@@ -35,17 +35,17 @@ pub fn touches_waves(cell: Cell) -> bool
 
 // The wave's x and y after the row's work.
 #[tactic(auto, using(crate::proofs::Cases::cases), unfolding(motion::specs::Waves::remembered))]
-fn row_digits(effect: u32, cell: Cell, wave: Wave) -> (u8, u8)
-    requires { cell.param < 256 }
+fn row_digits(effect: u8, cell: Cell, wave: Wave) -> (u8, u8)
     ensures x { result.0 ≡ remembered (eqb cell.effect effect) (x cell) wave.x }
     ensures y { result.1 ≡ remembered (eqb cell.effect effect) (y cell) wave.y }
 {
     if cell.effect != effect {
         return (wave.x, wave.y);
     }
-    let x = remembered(cell.param / 16, u32::from(wave.x));
-    let y = remembered(cell.param % 16, u32::from(wave.y));
-    (x as u8, y as u8)
+    (
+        remembered(cell.param / 16, wave.x),
+        remembered(cell.param % 16, wave.y),
+    )
 }
 
 #[tactic(auto, using(crate::proofs::Cases::cases), unfolding(crate::specs::Wavering::row_place))]
@@ -56,20 +56,19 @@ fn row_place(cell: Cell, place: u8) -> u8
 }
 
 #[tactic(auto, using(crate::proofs::Cases::cases), unfolding(crate::specs::Wavering::row_form))]
-fn row_form(choosing: u32, cell: Cell, form: u8) -> u8
+fn row_form(choosing: u8, cell: Cell, form: u8) -> u8
     ensures { result ≡ row_form choosing cell form }
 {
     if cell.effect != choosing {
         return form;
     }
     let chosen = cell.param % 16 % 4;
-    (chosen as u8).min(SQUARE)
+    chosen.min(SQUARE)
 }
 
 // The wave of an effect after the row's work, with the effect that chooses its form.
 #[tactic(auto, unfolding(crate::specs::Wavering::row_wave))]
-pub fn row_wave(effect: u32, choosing: u32, cell: Cell, wave: Wave) -> Wave
-    requires { cell.param < 256 }
+pub fn row_wave(effect: u8, choosing: u8, cell: Cell, wave: Wave) -> Wave
     ensures { result ≡ row_wave effect choosing cell wave }
 {
     let (x, y) = row_digits(effect, cell, wave);

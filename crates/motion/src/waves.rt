@@ -25,9 +25,9 @@ const GREATEST_ENTRY: u8 = 255;
 const RAMP_STEP: u8 = 8;
 
 // What an entry times a depth is divided by.
-const VIBRATO_DIVISOR: u32 = 128;
+const VIBRATO_DIVISOR: u16 = 128;
 
-const TREMOLO_DIVISOR: u32 = 64;
+const TREMOLO_DIVISOR: u16 = 64;
 
 // The sine's way up; the other numbers of a half wave are these, back down.
 static RISING: [u8; 17] = [
@@ -66,16 +66,16 @@ impl Wave {
 
     // The size of the offset.
     #[tactic(auto, unfolding(crate::specs::Waves::offset_size))]
-    fn offset_size(self, divisor: u32) -> u32
+    fn offset_size(self, divisor: u16) -> u16
         requires { 0 < divisor }
         ensures { result ≡ offset_size divisor self }
     {
-        u32::from(self.entry_size()) * u32::from(self.y) / divisor
+        u16::from(self.entry_size()) * u16::from(self.y) / divisor
     }
 
     // A period under vibrato.
     #[tactic(auto, using(crate::proofs::Waving::wavered_up, crate::proofs::Waving::wavered_down))]
-    pub fn vibrated(self, finetune: u32, period: u32) -> u32
+    pub fn vibrated(self, finetune: u8, period: u16) -> u16
         ensures { result ≡ vibrated finetune self period }
     {
         let by = self.offset_size(VIBRATO_DIVISOR);
@@ -88,7 +88,7 @@ impl Wave {
 
     // A volume under tremolo.
     #[tactic(auto, using(crate::proofs::Waving::wavered_up, crate::proofs::Waving::wavered_down))]
-    pub fn trembled(self, volume: u32) -> u32
+    pub fn trembled(self, volume: u8) -> u8
         ensures { result ≡ trembled self volume }
     {
         let by = self.offset_size(TREMOLO_DIVISOR);
@@ -107,7 +107,7 @@ impl Wave {
         if !used {
             return self;
         }
-        let place = (u32::from(self.place) + u32::from(self.x)) % u32::from(WHOLE_WAVE);
+        let place = (u16::from(self.place) + u16::from(self.x)) % u16::from(WHOLE_WAVE);
         Wave {
             place: place as u8,
             ..self
@@ -117,7 +117,7 @@ impl Wave {
 
 // What is remembered of a number that is given, 0 meaning the old one.
 #[tactic(auto, using(laws::specs::Tests::tests), unfolding(crate::specs::Waves::remembered))]
-pub fn remembered(n: u32, old: u32) -> u32
+pub fn remembered(n: u8, old: u8) -> u8
     ensures { result ≡ remembered true n old }
 {
     if n == 0 { old } else { n }

@@ -33,10 +33,10 @@ pub struct Layout {
 // A cell of a pattern. The effects E0 to EF have the numbers 224 to 239.
 #[derive(Clone, Copy)]
 pub struct Cell {
-    pub sample: u32,
-    pub period: u32,
-    pub effect: u32,
-    pub param: u32,
+    pub sample: u8,
+    pub period: u16,
+    pub effect: u8,
+    pub param: u8,
 }
 
 // Where a sample's bytes lie in the file; and, counted from its first byte, its end and its loop's first byte.

@@ -3,6 +3,7 @@ ghost use Rattle.std.specs.Prelude.{◌≡◌, ◌+◌, ◌-◌, ◌*◌, ◌<�
 ghost use Rattle.reader.specs.File.{lent, song_length, header_finetune, header_volume};
 ghost use Rattle.reader.specs.Judge.{verdict};
 ghost use Rattle.common.specs.ByteLaws.{Bytes};
+ghost use Rattle.common.specs.Bytes.{byte_at};
 ghost use Rattle.reader.specs.Cells.{effect_of, cell_of, cell_from, row_offset};
 ghost use Rattle.common.specs.Limits.{width};
 ghost use Rattle.reader.specs.Layouts.{LegalLayout};
@@ -24,24 +25,28 @@ pub fn song_length(layout: Layout, file: &[u8]) -> u32
     u32::from(file[at])
 }
 
+// The byte at a place, 0 past the end.
+fn read_at(file: &[u8], at: usize) -> u8
+    ensures { result ≡ byte_at file.now at }
+{
+    file.get(at).copied().unwrap_or(0)
+}
+
 #[tactic(auto, using(laws::specs::Tests::tests))]
-fn effect_code(b2: u32, b3: u32) -> u32
-    requires { (b2 < 256) × (b3 < 256) }
-    ensures { (result ≡ effect_of b2 b3) × (result < 256) }
+fn effect_code(b2: u8, b3: u8) -> u8
+    ensures { result ≡ effect_of b2 b3 }
 {
     let low = b2 % 16;
     if low == 14 { 224 + b3 / 16 } else { low }
 }
 
 // The cell that four bytes spell.
-fn cell_of(b0: u32, b1: u32, b2: u32, b3: u32) -> Cell
-    requires { (b0 < 256) × (b1 < 256) × (b2 < 256) × (b3 < 256) }
-    ensures cell { result ≡ cell_of b0 b1 b2 b3 }
-    ensures param { result.param < 256 }
+fn cell_of(b0: u8, b1: u8, b2: u8, b3: u8) -> Cell
+    ensures { result ≡ cell_of b0 b1 b2 b3 }
 {
     Cell {
         sample: b0 / 16 * 16 + b2 / 16,
-        period: b0 % 16 * 256 + b1,
+        period: u16::from(b0 % 16) * 256 + u16::from(b1),
         effect: effect_code(b2, b3),
         param: b3,
     }
@@ -51,22 +56,16 @@ fn cell_of(b0: u32, b1: u32, b2: u32, b3: u32) -> Cell
 #[tactic(auto, unfolding(crate::specs::Cells::cell_from))]
 fn cell_from(file: &[u8], at: usize) -> Cell
     requires { at + 3 < 2 ^ 63 }
-    ensures cell { result ≡ cell_from file.now at }
-    ensures param { result.param < 256 }
+    ensures { result ≡ cell_from file.now at }
 {
     if at + 3 < file.len() {
-        return cell_of(
-            u32::from(file[at]),
-            u32::from(file[at + 1]),
-            u32::from(file[at + 2]),
-            u32::from(file[at + 3]),
-        );
+        return cell_of(file[at], file[at + 1], file[at + 2], file[at + 3]);
     }
     cell_of(
-        byte(file, at),
-        byte(file, at + 1),
-        byte(file, at + 2),
-        byte(file, at + 3),
+        read_at(file, at),
+        read_at(file, at + 1),
+        read_at(file, at + 2),
+        read_at(file, at + 3),
     )
 }
 
@@ -84,30 +83,25 @@ pub fn row_at(layout: Layout, file: &[u8], position: u32, row: u32) -> usize
 // The cell of a channel, from 0, in the row that begins at a place.
 pub fn cell_in(file: &[u8], row: usize, channel: usize) -> Cell
     requires { (row < 2 ^ 62) × (channel < width) }
-    ensures cell { result ≡ cell_from file.now (row + 4 * channel) }
-    ensures param { result.param < 256 }
+    ensures { result ≡ cell_from file.now (row + 4 * channel) }
 {
     cell_from(file, row + CELL_BYTES * channel)
 }
 
 // The volume of the header of sample number k, from 1.
-pub fn header_volume(file: &[u8], k: u32) -> u32
+pub fn header_volume(file: &[u8], k: u8) -> u8
     requires { 0 < k }
     ensures { result ≡ header_volume file.now (k - 1) }
 {
-    byte(
-        file,
-        HEADERS_AT + HEADER_BYTES * (k - 1) as usize + VOLUME_AT,
-    )
+    let header = HEADERS_AT + HEADER_BYTES * usize::from(k - 1);
+    read_at(file, header + VOLUME_AT)
 }
 
 // The finetune of the header of sample number k, from 1: 0 to 15, 8 to 15 meaning -8 to -1.
-pub fn header_finetune(file: &[u8], k: u32) -> u32
+pub fn header_finetune(file: &[u8], k: u8) -> u8
     requires { 0 < k }
     ensures { result ≡ header_finetune file.now (k - 1) }
 {
-    byte(
-        file,
-        HEADERS_AT + HEADER_BYTES * (k - 1) as usize + FINETUNE_AT,
-    ) % 16
+    let header = HEADERS_AT + HEADER_BYTES * usize::from(k - 1);
+    read_at(file, header + FINETUNE_AT) % 16
 }

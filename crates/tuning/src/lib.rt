@@ -2,7 +2,7 @@
 #![tactic(auto)]
 
 ghost use Rattle.std.specs.Prelude.{◌≡◌, ◌≤◌};
-ghost use Rattle.tuning.specs.Table.{last_note, entry, greatest_of};
+ghost use Rattle.tuning.specs.Table.{last_note, entry};
 ghost use Rattle.tuning.specs.Tuned.{place_of, tuned, kept, semitones};
 
 use crate::table::{LAST_NOTE, ends_of, row_of};
@@ -10,11 +10,11 @@ use crate::table::{LAST_NOTE, ends_of, row_of};
 mod table;
 
 // The largest finetune, which means -1.
-pub const LAST_FINETUNE: u32 = 15;
+pub const LAST_FINETUNE: u8 = 15;
 
 // The entry of a row at a place.
 #[tactic(auto, using(crate::proofs::Places::entry_in))]
-fn entry(finetune: u32, note: usize) -> u32
+fn entry(finetune: u8, note: usize) -> u16
     requires { note ≤ last_note }
     ensures { result ≡ entry finetune note }
 {
@@ -22,7 +22,7 @@ fn entry(finetune: u32, note: usize) -> u32
 }
 
 // Where a finetune's row is first at or below a period, or its last place.
-fn place_of(finetune: u32, period: u32) -> usize
+fn place_of(finetune: u8, period: u16) -> usize
     ensures { (result ≡ place_of finetune period) × (result ≤ last_note) }
 {
     let row = row_of(finetune);
@@ -34,7 +34,7 @@ fn place_of(finetune: u32, period: u32) -> usize
 
 // The period of a note that a cell's period asks for.
 #[tactic(auto, using(crate::proofs::Places::tuned_by), unfolding(crate::specs::Tuned::tuned))]
-pub fn tuned(finetune: u32, period: u32) -> u32
+pub fn tuned(finetune: u8, period: u16) -> u16
     ensures { result ≡ tuned finetune period }
 {
     if finetune == 0 {
@@ -43,16 +43,9 @@ pub fn tuned(finetune: u32, period: u32) -> u32
     entry(finetune, place_of(0, period))
 }
 
-// The greatest period of a finetune's row.
-pub fn greatest_of(finetune: u32) -> u32
-    ensures { result ≡ greatest_of finetune }
-{
-    ends_of(finetune).first
-}
-
 // A slide's result, kept in the row.
 #[tactic(auto, using(crate::proofs::Places::in_order, crate::proofs::Places::kept_by))]
-pub fn kept(finetune: u32, n: u32) -> u32
+pub fn kept(finetune: u8, n: u16) -> u16
     ensures { result ≡ kept finetune n }
 {
     let ends = ends_of(finetune);
@@ -61,9 +54,9 @@ pub fn kept(finetune: u32, n: u32) -> u32
 
 // A period so many semitones up in its finetune's row.
 #[tactic(auto, using(crate::proofs::Places::semitones_by))]
-pub fn semitones(finetune: u32, period: u32, by: u32) -> u32
+pub fn semitones(finetune: u8, period: u16, by: u8) -> u16
     ensures { result ≡ semitones finetune period by }
 {
-    let note = place_of(finetune, period) + by as usize;
+    let note = place_of(finetune, period) + usize::from(by);
     entry(finetune, note.min(LAST_NOTE))
 }

@@ -1,7 +1,7 @@
 // The 16 rows of 36 periods, as printed.
 ghost use Rattle.std.specs.Prelude.{◌≡◌};
 ghost use Rattle.tuning.specs.Ends.{ends_of};
-ghost use Rattle.tuning.specs.Table.{greatest_of, row_of};
+ghost use Rattle.tuning.specs.Table.{row_of};
 
 // How many periods a row has, and its last.
 pub const ROW_LENGTH: usize = 36;
@@ -9,7 +9,7 @@ pub const ROW_LENGTH: usize = 36;
 pub const LAST_NOTE: usize = 35;
 
 // Finetune 0 to 7, then -8 to -1.
-static ROWS: [[u32; ROW_LENGTH]; 16] = [
+static ROWS: [[u16; ROW_LENGTH]; 16] = [
     // Finetune 0
     [
         856, 808, 762, 720, 678, 640, 604, 570, 538, 508, 480, 453, 428, 404, 381, 360, 339, 320,
@@ -93,24 +93,24 @@ static ROWS: [[u32; ROW_LENGTH]; 16] = [
 ];
 
 // What a finetune past the last reads as.
-static NO_ROW: [u32; ROW_LENGTH] = [0; ROW_LENGTH];
+static NO_ROW: [u16; ROW_LENGTH] = [0; ROW_LENGTH];
 
 // A finetune's row.
-pub fn row_of(finetune: u32) -> &'static [u32; ROW_LENGTH]
+pub fn row_of(finetune: u8) -> &'static [u16; ROW_LENGTH]
     ensures { result.now ≡ row_of finetune }
 {
-    ROWS.get(finetune as usize).unwrap_or(&NO_ROW)
+    ROWS.get(usize::from(finetune)).unwrap_or(&NO_ROW)
 }
 
 // A row's first period, its greatest, and its last, its least.
 #[derive(Clone, Copy)]
 pub struct Ends {
-    pub first: u32,
-    pub last: u32,
+    pub first: u16,
+    pub last: u16,
 }
 
 #[tactic(auto, using(crate::proofs::Places::ends_by))]
-pub fn ends_of(finetune: u32) -> Ends
+pub fn ends_of(finetune: u8) -> Ends
     ensures { result ≡ ends_of finetune }
 {
     let row = row_of(finetune);
