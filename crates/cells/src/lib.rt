@@ -38,7 +38,7 @@ const REMAINDER: usize = 10;
 const LEAST_BELOW: u32 = 8;
 
 // A finetune that no legal state has.
-const NO_FINETUNE: u8 = LAST_FINETUNE as u8 + 1;
+const NO_FINETUNE: u8 = LAST_FINETUNE + 1;
 
 // -16 as a 32-bit number in two's complement.
 const BELOW_ZERO: u32 = 4294967280;
@@ -83,7 +83,7 @@ fn finetune_cell(finetune: u8) -> u32
     if cell < LEAST_BELOW {
         return cell;
     }
-    if cell <= LAST_FINETUNE {
+    if finetune <= LAST_FINETUNE {
         return BELOW_ZERO + cell;
     }
     cell

@@ -19,13 +19,13 @@ use sequencer::{Song, Worked};
 use voice::Voice;
 
 // The sounding sample numbers.
-fn soundings(voices: [Voice; WIDTH]) -> [u32; WIDTH]
+fn soundings(voices: [Voice; WIDTH]) -> [u8; WIDTH]
     ensures { result ≡ soundings voices }
 {
-    let mut samples = [0u32; WIDTH];
+    let mut samples = [0u8; WIDTH];
     for i in 0..WIDTH {
         let voice = voices[i];
-        samples[i] = voice.sample as u32;
+        samples[i] = voice.sample;
     }
     samples
 }

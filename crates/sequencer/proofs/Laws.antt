@@ -9,9 +9,8 @@ use Rattle.std.proofs.lemmas.List.FromFn.{map-range_with_len_more}
 use Rattle.std.specs.List.{list_all, range_with_len}
 use Rattle.laws.specs.Ranges.{every}
 use Rattle.laws.specs.Each.{same_parts, Parting, pad_begin, within_begin, part_again, part_end}
-use Rattle.common.specs.Limits.{width, last_byte}
+use Rattle.common.specs.Limits.{width}
 use Rattle.common.specs.ByteLaws.{Bytes}
-use Rattle.ticks.specs.Legal.{command_spellable}
 use Rattle.reader.specs.File.{Module, lent, song_length, channel_count}
 use Rattle.reader.specs.Judge.{verdict}
 use Rattle.reader.specs.Accept.{accepted_has}
@@ -20,14 +19,13 @@ use Rattle.reader.specs.declared.Layout.{Layout}
 use Rattle.reader.specs.declared.Cell.{Cell}
 use Rattle.effects.specs.Commands.{voiced}
 use Rattle.effects.specs.Legal.{fresh_channel}
-use Rattle.effects.specs.Small.{Small, channel_small}
 use Rattle.effects.specs.declared.Voiced.{Voiced}
 use Rattle.sequencer.specs.Row.{cell_on, row_flow, flow_through}
 use Rattle.sequencer.specs.RowFacts.{BeginsAt, cell_there}
 use Rattle.sequencer.specs.Voicing.{BeforeWork}
 use Rattle.sequencer.specs.Songs.{song_work, voiced_on, all_voiced, row_ticks, next_tick}
 use Rattle.sequencer.specs.Legal.{greatest_speed, last_delay}
-use Rattle.sequencer.specs.Kept.{work_kept, channel_kept, command_legal}
+use Rattle.sequencer.specs.Kept.{work_kept}
 use Rattle.sequencer.specs.declared.Place.{Place}
 use Rattle.sequencer.specs.declared.Time.{Time}
 use Rattle.sequencer.specs.declared.Flow.{Flow}
@@ -87,21 +85,6 @@ module _ (m : Module) (s : Song) (k : List ℕ) (all : AllVoiced) where
   pub voicing_end : (positions i : ℕ) → LegalSong positions m.layout s → Voicing m s k all i → channel_count m ≤ i → i ≤ channel_count m → all ≡ all_voiced m s k
   unfolding all_voiced
   voicing_end positions i z w l h = rw (part_end _ _ _ _ _ i (channel_count m) w.worked l h, same_parts (λ j. (voiced_on m s k j).channel) _ (channel_count m) _ (λ j. fresh_channel) width (λ j q. refl) z.rest, part_end _ _ _ _ _ i (channel_count m) w.told l h)
-
--- a channel and its command stay small, with the cell as it was read
-pub voicing_small : (y : Layout) (xs : List ℕ) (s : Song) (k : List ℕ) (i : ℕ) (at : Place) (c : Cell) → Small (voiced_on (lent y xs) s k i) → at ≡ s.course.at → c ≡ cell_on (lent y xs) at i → Small (voiced xs c s.time.tick (s.time.tick % s.time.speed) (get_or s.channels i fresh_channel) (get_or k i 0))
-unfolding voiced_on
-voicing_small y xs s k i at c h z q = rw (q, z) h
-
--- ---- in a legal run channels stay small, and commands can be spelled
-pub run_small : (l : Layout) (xs : List ℕ) (s : Song) (k : List ℕ) → LegalLayout l → (verdict (lent l xs)).number ≡ 0 → Bytes xs → LegalRun (lent l xs) s k → (j : ℕ) → j < l.channels → Small (voiced_on (lent l xs) s k j)
-run_small y xs s k z e b l j h =
-    let few : y.samples ≤ last_byte = omega (arith, z.samples) in
-    let a = accepted_has (lent y xs) e in
-    record {
-      channel = channel_small y.samples _ few (channel_kept (lent y xs) a b s l.song k j h (l.sounding.low j h));
-      command = command_spellable y.samples (get_or k j 0) _ few (command_legal (lent y xs) a b s l.song k j h (l.sounding.low j h));
-    }
 
 -- ---- the song after the row's work has a tick below its row's
 pub work_time : (l : Layout) (xs : List ℕ) (s r : Song) (k : List ℕ) → (verdict (lent l xs)).number ≡ 0 → Bytes xs → LegalRun (lent l xs) s k → r ≡ song_work (lent l xs) s → LegalTime r.time

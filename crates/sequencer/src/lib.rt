@@ -11,8 +11,6 @@ ghost use Rattle.common.specs.ByteLaws.{Bytes};
 ghost use Rattle.reader.specs.Judge.{verdict};
 ghost use Rattle.reader.specs.Modules.{as_module};
 ghost use Rattle.effects.specs.Commands.{voiced};
-ghost use Rattle.effects.specs.Small.{Small};
-ghost use Rattle.reader.specs.Cells.{cell_from};
 ghost use Rattle.sequencer.specs.RowFacts.{BeginsAt};
 ghost use Rattle.sequencer.specs.Voicing.{BeforeWork};
 ghost use Rattle.reader.specs.File.{lent, song_length};
@@ -157,10 +155,9 @@ fn before_work(channels: [Channel; WIDTH]) -> AllVoiced
 }
 
 // All channels in a tick of the row that the song is at. Those past the count are as fresh, and stay so.
-fn all_voiced(row: &Row, song: Song, sounding: [u32; WIDTH]) -> AllVoiced
+fn all_voiced(row: &Row, song: Song, sounding: [u8; WIDTH]) -> AllVoiced
     requires row { row.now.at ≡ song.course.at }
     requires legal { LegalSong (song_length (lent row.now.layout row.now.file.now)) row.now.layout song }
-    requires small { (j : ℕ) → j < row.now.layout.channels → Small (voiced_on (lent row.now.layout row.now.file.now) song sounding j) }
     ensures { result ≡ all_voiced (lent row.now.layout row.now.file.now) song sounding }
 {
     let u = song.time.tick;
@@ -183,8 +180,8 @@ fn all_voiced(row: &Row, song: Song, sounding: [u32; WIDTH]) -> AllVoiced
 }
 
 // A tick of a legal song in the row that it is at.
-#[tactic(auto, unfolding(crate::specs::Songs::tick_of, crate::specs::Songs::tick_with), using(crate::proofs::Laws::run_small))]
-fn tick_in(row: &Row, song: Song, sounding: [u32; WIDTH]) -> Worked
+#[tactic(auto, unfolding(crate::specs::Songs::tick_of, crate::specs::Songs::tick_with))]
+fn tick_in(row: &Row, song: Song, sounding: [u8; WIDTH]) -> Worked
     requires row { row.now.at ≡ song.course.at }
     requires accepted { (verdict (lent row.now.layout row.now.file.now)).number ≡ 0 }
     requires bytes { Bytes row.now.file.now }
@@ -204,7 +201,7 @@ fn tick_in(row: &Row, song: Song, sounding: [u32; WIDTH]) -> Worked
 
 impl Song {
     // One tick of a legal song: the song after it, and what it tells the voices. `sounding` are the samples that the voices have, legal too.
-    pub fn tick(self, m: &Module, sounding: [u32; WIDTH]) -> Worked
+    pub fn tick(self, m: &Module, sounding: [u8; WIDTH]) -> Worked
         requires { LegalRun (as_module m.now) self sounding }
         ensures { result ≡ tick_of (as_module m.now) self sounding }
     {
@@ -224,7 +221,7 @@ pub fn fresh() -> Song
     Song::default()
 }
 
-pub fn tick(layout: Layout, file: &[u8], song: Song, sounding: [u32; WIDTH]) -> Worked
+pub fn tick(layout: Layout, file: &[u8], song: Song, sounding: [u8; WIDTH]) -> Worked
     requires layout { LegalLayout layout }
     requires accepted { (verdict (lent layout file.now)).number ≡ 0 }
     requires legal { LegalRun (lent layout file.now) song sounding }
@@ -241,8 +238,8 @@ pub fn tick(layout: Layout, file: &[u8], song: Song, sounding: [u32; WIDTH]) -> 
 }
 
 // The samples that the voices have after these commands.
-pub fn sounding_of(commands: [Command; WIDTH]) -> [u32; WIDTH]
+pub fn sounding_of(commands: [Command; WIDTH]) -> [u8; WIDTH]
     ensures { result ≡ sounding_of commands }
 {
-    commands.map(|command| u32::from(command.sample))
+    commands.map(|command| command.sample)
 }

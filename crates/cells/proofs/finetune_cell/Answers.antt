@@ -8,9 +8,9 @@ pub returns-then-cell-lt-LEAST_BELOW : goal.returns-then-cell-lt-LEAST_BELOW
 unfolding finetune_cell
 returns-then-cell-lt-LEAST_BELOW c = search (tests, rules)
 
-pub returns-then-cell-le-LAST_FINETUNE : goal.returns-then-cell-le-LAST_FINETUNE
+pub returns-then-finetune-le-LAST_FINETUNE : goal.returns-then-finetune-le-LAST_FINETUNE
 unfolding finetune_cell
-returns-then-cell-le-LAST_FINETUNE c = search (tests, rules)
+returns-then-finetune-le-LAST_FINETUNE c = search (tests, rules)
 
 pub returns : goal.returns
 unfolding finetune_cell

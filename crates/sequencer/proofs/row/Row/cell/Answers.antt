@@ -3,5 +3,5 @@ use Rattle.std.proofs.Common.{rules}
 use Rattle.sequencer.proofs.Laws.{cell_read}
 use Rattle.sequencer.proofs.row.Row.cell.Goals as goal
 
-pub returns-clause-cell : goal.returns-clause-cell
-returns-clause-cell c = search (cell_read, rules)
+pub returns : goal.returns
+returns c = search (cell_read, rules)
