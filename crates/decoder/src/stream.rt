@@ -38,6 +38,7 @@ pub struct Ticks<'a> {
     pub registers: [Command; WIDTH],
     pub next: usize,
     pub left: usize,
+    ghost few: { left < 2 ^ 32 },
     ghost all: { has_ticks (decode_records stream.scope.last stream.scope.channels stream.header.bytes.now left next registers) ≡ true },
 }
 
