@@ -6,22 +6,24 @@ use crate::Channel;
 use common::limits::{LOUDEST, is_period};
 use tuning::LAST_FINETUNE;
 
-#[tactic(auto)]
-pub fn is_fresh(channel: Channel) -> bool
-    ensures { result ≡ is_fresh channel }
-{
-    channel == Channel::default()
-}
+impl Channel {
+    pub fn is_fresh(self) -> bool
+        ensures { result ≡ is_fresh self }
+    {
+        self == Channel::default()
+    }
 
-#[tactic(auto, unfolding(crate::specs::Legal::legal_channel, laws::specs::Ranges::all, laws::specs::Ranges::all_from))]
-pub fn legal_channel(last: u32, channel: Channel) -> bool
-    ensures { result ≡ legal_channel last channel }
-{
-    u32::from(channel.latched) <= last
-        && channel.finetune <= LAST_FINETUNE
-        && u32::from(channel.volume) <= LOUDEST
-        && is_period(u32::from(channel.period))
-        && is_period(u32::from(channel.target))
-        && channel.vibrato.is_legal()
-        && channel.tremolo.is_legal()
+    // The last sample is the layout's.
+    #[tactic(auto, unfolding(crate::specs::Legal::legal_channel, laws::specs::Ranges::all, laws::specs::Ranges::all_from))]
+    pub fn is_legal(self, last: u32) -> bool
+        ensures { result ≡ legal_channel last self }
+    {
+        u32::from(self.latched) <= last
+            && self.finetune <= LAST_FINETUNE
+            && u32::from(self.volume) <= LOUDEST
+            && is_period(u32::from(self.period))
+            && is_period(u32::from(self.target))
+            && self.vibrato.is_legal()
+            && self.tremolo.is_legal()
+    }
 }

@@ -1,5 +1,5 @@
-// Whether a cell has a note, or a target, and whether it slides towards one. Effects are numbers throughout, in hexadecimal: so the definitions
-// and the format's users name them.
+// Whether a cell has a note, or a target, and whether it slides towards one. Effects are numbers here and in the other files, in hexadecimal, by
+// which the definitions and the format's users name them.
 ghost use Rattle.std.specs.Prelude.{◌≡◌};
 ghost use Rattle.effects.specs.Notes.{is_portamento, is_note, is_target};
 

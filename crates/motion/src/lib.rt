@@ -1,7 +1,7 @@
 // How a period and a volume move: slides within their limits, and the waves of vibrato and tremolo.
 #![tactic(auto)]
 
-pub mod legal;
+mod legal;
 pub mod slides;
 pub mod waves;
 

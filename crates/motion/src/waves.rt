@@ -73,7 +73,7 @@ impl Wave {
         u16::from(self.entry_size()) * u16::from(self.y) / divisor
     }
 
-    // A period under vibrato.
+    // A period under vibrato. This and the next stay two: one function over closures would ensure what a call of them gives, and no definition.
     #[tactic(auto, using(crate::proofs::Waving::wavered_up, crate::proofs::Waving::wavered_down))]
     pub fn vibrated(self, finetune: u8, period: u16) -> u16
         ensures { result ≡ vibrated finetune self period }
