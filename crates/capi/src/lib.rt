@@ -22,6 +22,8 @@ ghost use Rattle.capi.specs.Version.{library_version};
 
 use board_cells::{BOARD_CELLS, FEED_CELLS, put_board, put_feed};
 use cells::CELLS;
+use player::State;
+use player::touching::{Burst, Touch};
 use replies::{ANSWER_CELLS, PAIR_CELLS, pair_of, put_answer, put_pair, put_reply, why_answer};
 
 // Major times 1,000,000, plus minor times 1,000, plus patch.
@@ -40,7 +42,7 @@ pub extern "C" fn lampthistle_version() -> u32
 pub extern "C" fn lampthistle_judge(file: &[u8], answer: &mut [u64; ANSWER_CELLS])
     ensures { answer.new ≡ answer_cells (judge_of file.now) }
 {
-    put_answer(reader::judge(file), answer);
+    put_answer(reader::verdict::judge(file).into(), answer);
 }
 
 // How many channels a file has by its tag, 0 where it has no tag that is known.
@@ -57,7 +59,7 @@ pub extern "C" fn lampthistle_channels(file: &[u8]) -> u32
 pub extern "C" fn lampthistle_fresh(state: &mut [u32; CELLS])
     ensures { state.new ≡ state_cells fresh_state }
 {
-    *state = cells::cells_of(player::fresh());
+    *state = cells::cells_of(State::default());
 }
 
 // Plays the largest number of whole ticks, up to `ticks`, whose frames fit into out.
@@ -73,8 +75,9 @@ pub extern "C" fn lampthistle_play(
     ensures stated { state.new ≡ cells_after (play_of file.now (state_of state.old) ticks out.old).reply state.old }
     ensures sounded { out.new ≡ (play_of file.now (state_of state.old) ticks out.old).out }
 {
-    let reply = player::play(file, cells::state_of(state), ticks, out);
-    put_reply(reply, state, answer);
+    let mut after = cells::state_of(state);
+    let played = player::play(file, &mut after, ticks, out);
+    put_reply(played.into(), after, state, answer);
 }
 
 // A touch: made on a page, at a clock, for a position of the song.
@@ -90,8 +93,14 @@ pub extern "C" fn lampthistle_touch(
     ensures answered { answer.new ≡ answer_cells (touch_of file.now (state_of state.old) page made position).answer }
     ensures stated { state.new ≡ cells_after (touch_of file.now (state_of state.old) page made position) state.old }
 {
-    let reply = player::touch(file, cells::state_of(state), page, made, position);
-    put_reply(reply, state, answer);
+    let mut after = cells::state_of(state);
+    let touch = Touch {
+        page,
+        made,
+        position,
+    };
+    let touched = player::touch(file, &mut after, touch);
+    put_reply(touched.into(), after, state, answer);
 }
 
 // A burst of touches: the page, the clock when made and the position of each, and an answer for each.
@@ -109,15 +118,14 @@ pub extern "C" fn lampthistle_touch_burst(
     ensures stated { state.new ≡ cells_after (burst_of file.now (state_of state.old) (record { pages = pages.now; mades = mades.now; positions = positions.now }) answers.old).reply state.old }
     ensures written { answers.new ≡ (burst_of file.now (state_of state.old) (record { pages = pages.now; mades = mades.now; positions = positions.now }) answers.old).out }
 {
-    let reply = player::touch_burst(
-        file,
-        cells::state_of(state),
+    let mut after = cells::state_of(state);
+    let burst = Burst {
         pages,
         mades,
         positions,
-        answers,
-    );
-    put_reply(reply, state, answer);
+    };
+    let taken = player::touch_burst(file, &mut after, &burst, answers);
+    put_reply(taken.into(), after, state, answer);
 }
 
 // A page change.
@@ -130,8 +138,9 @@ pub extern "C" fn lampthistle_change_page(
     ensures answered { answer.new ≡ answer_cells (change_page_of file.now (state_of state.old)).answer }
     ensures stated { state.new ≡ cells_after (change_page_of file.now (state_of state.old)) state.old }
 {
-    let reply = player::change_page(file, cells::state_of(state));
-    put_reply(reply, state, answer);
+    let mut after = cells::state_of(state);
+    let changed = player::change_page(file, &mut after);
+    put_reply(changed.into(), after, state, answer);
 }
 
 // Why a channel is quiet.
@@ -144,8 +153,8 @@ pub extern "C" fn lampthistle_why_quiet(
 )
     ensures { answer.new ≡ answer_cells (why_answer (why_quiet_of file.now (state_of state.now) channel)) }
 {
-    let why = player::why_quiet(file, cells::state_of(state), channel);
-    put_answer(why_answer(why), answer);
+    let caused = player::why_quiet(file, &cells::state_of(state), channel);
+    put_answer(why_answer(caused), answer);
 }
 
 // Translates at most 65,535 ticks of a module, from fresh, to a stream in the room.
@@ -215,7 +224,7 @@ pub extern "C" fn lampthistle_play_floats(
     let reply = played.reply;
     let last = played.pair;
     put_pair(reply.answer, last, pair, pair_tick);
-    put_reply(reply, state, answer);
+    put_reply(reply.answer, reply.state, state, answer);
 }
 
 // Plays a stream's ticks from one on, counted from 0, with a module's samples, as floats for one side or two.

@@ -93,29 +93,27 @@ fn tick_size(before: u32, remainder: u32, tempo: u32) -> usize
     numbers
 }
 
-// Plays a tick, tells of it, and returns the state after it.
-fn play_tick(rt: &impl Print, file: &[u8], state: State) -> io::Result<State> {
+// Plays a tick and tells of it. A file that is no module leaves the state.
+fn play_tick(rt: &impl Print, file: &[u8], state: &mut State) -> io::Result<()> {
+    let before = *state;
     let mut out = room();
-    let reply = player::play(file, state, 1, &mut out);
-    let after = reply.state;
-    let voices = after.voices;
+    player::play(file, state, 1, &mut out).unwrap_or(0);
     let layout = reader::offsets::layout_of(file);
     let size = tick_size(
+        before.song.time.tempo,
+        before.remainder,
         state.song.time.tempo,
-        state.remainder,
-        after.song.time.tempo,
     );
-    tell_place(rt, state.song)?;
-    tell(rt, after.song.time.tempo)?;
-    tell_voices(rt, layout.channels, voices)?;
-    println!(rt; " {}", checksum(&out, size))?;
-    Ok(after)
+    tell_place(rt, before.song)?;
+    tell(rt, state.song.time.tempo)?;
+    tell_voices(rt, layout.channels, state.voices)?;
+    println!(rt; " {}", checksum(&out, size))
 }
 
 pub fn play_ticks(rt: &impl Print, file: &[u8]) -> io::Result<()> {
-    let mut state = player::fresh();
+    let mut state = State::default();
     for _ in 0..TICKS {
-        state = play_tick(rt, file, state)?;
+        play_tick(rt, file, &mut state)?;
     }
     Ok(())
 }

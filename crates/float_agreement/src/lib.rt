@@ -12,6 +12,7 @@ use common::Answer;
 use float_board::FloatAnswer;
 use float_player::FloatReply;
 use floats::Pair;
+use player::State;
 
 // What the three calls returned: the translator, the player and the stream player.
 #[derive(Clone, Copy)]
@@ -41,7 +42,7 @@ pub fn play_both_floats(
         → FloatAgreement file.now ticks sides panel_pair board_pair result room.old room.new panel.old panel.new board.old board.new }
 {
     let translated = translator::translate(file, ticks, room);
-    let played = float_player::play_floats(file, player::fresh(), ticks, sides, panel_pair, panel);
+    let played = float_player::play_floats(file, State::default(), ticks, sides, panel_pair, panel);
     let len = translated.count;
     let streamed = float_board::play_stream_floats(&room[..len], file, sides, board_pair, board);
     FloatBoth {

@@ -19,11 +19,9 @@ use Rattle.voice.specs.LegalFacts.{used_has}
 use Rattle.voice.specs.Modules.{table_inside}
 use Rattle.voice.specs.Quiet.{cause_of}
 use Rattle.player.specs.declared.State.{State}
-use Rattle.player.specs.declared.Why.{Why}
-use Rattle.player.specs.declared.Why.TheVariants.{Refused, Because}
 use Rattle.player.specs.State.{legal_state}
 use Rattle.player.specs.Legal.{Judged}
-use Rattle.player.specs.Quiet.{voice_cause, channel_line, why_quiet_of}
+use Rattle.player.specs.Quiet.{Why, Refused, Because, voice_cause, channel_line, why_quiet_of}
 use Rattle.player.specs.Judging.{refused_state, passed_state}
 
 -- ---- a sample's part of the file

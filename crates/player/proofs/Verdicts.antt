@@ -2,13 +2,19 @@
 -- Assumes nothing.
 use Rattle.std.proofs.Common.{◌≡◌, ℕ, Bool, true, false, not, ◌&&◌, ltb, List, [], ℤ, sym, refl, ap, ◌∙◌, arith}
 use Rattle.laws.specs.Ranges.{all, all_from}
-use Rattle.reader.specs.Layouts.{LegalLayout}
+use Rattle.reader.specs.Layouts.{LegalLayout, module_legal}
 use Rattle.common.specs.Answers.{Line, refused, accepted, outcome, refusing}
 use Rattle.common.specs.AnswerLaws.{no_line, line_given, line_passed}
 use Rattle.common.specs.ByteLaws.{Bytes}
 use Rattle.common.specs.declared.Answer.{Answer}
+use Rattle.common.specs.declared.refusals.Refusal.{Refusal}
+use Rattle.common.specs.declared.refusals.Rule.TheVariants.{State as IllegalState}
+use Rattle.common.specs.Refusals.{refusal}
+use Rattle.common.specs.RefusalLaws.{refused_by_a_rule}
 use Rattle.reader.specs.File.{Module, lent, layout_of, module_of, song_length}
-use Rattle.reader.specs.Judge.{verdict}
+use Rattle.reader.specs.Judge.{verdict, judge_of}
+use Rattle.reader.specs.Modules.{as_module, module_read}
+use Rattle.reader.specs.declared.module.Module.{Module as ReadModule}
 use Rattle.reader.specs.Accept.{verdict_answer, accepted_by, module_given, module_passed}
 use Rattle.reader.specs.Samples.{extents_of}
 use Rattle.reader.specs.declared.Extent.{Extent}
@@ -80,3 +86,28 @@ module _ (layout : Layout) (bytes : List ℕ) (s : State) (v : Answer) (ve : v �
 
 pub legal_playable : (layout : Layout) (bytes : List ℕ) (s : State) (v : Answer) (l : Bool) → v ≡ verdict (lent layout bytes) → v.number ≡ 0 → l ≡ legal_state (lent layout bytes) s → l ≡ true → LegalLayout layout → Bytes bytes → Playable (lent layout bytes) (record { song = s.song; voices = s.voices; remainder = s.remainder })
 legal_playable layout bytes s v l ve z q h y b = record { layout = y; judged = accepted_by (lent layout bytes) v ve z; bytes = b; legal = sym q ∙ h }
+
+-- ---- a file and a state that are admitted
+module _ (bytes : List ℕ) (s : State) where
+  pub admit_refused : (e : Refusal) → judge_of bytes ≡ refusal e → Judged (module_of bytes) s (refusal e)
+  unfolding judge_of
+  admit_refused e j = judged_module (layout_of bytes) bytes s (refusal e) (sym j) (refused_by_a_rule e.rule)
+
+  module _ (m : ReadModule) (me : m.file.now ≡ bytes) (l : Bool) (le : l ≡ legal_state (as_module m) s) where
+    here : Module
+    here = module_of bytes
+
+    legal_here : l ≡ legal_state (module_of bytes) s
+    legal_here = rw (← module_read m bytes me) le
+
+    zero_here : (verdict (module_of bytes)).number ≡ 0
+    zero_here = rw (← module_read m bytes me) m.judged
+
+    bytes_here : Bytes bytes
+    bytes_here = rw (← me) m.bytes
+
+    pub admit_legal : l ≡ true → Judged (module_of bytes) s (accepted 0)
+    admit_legal h = judged_legal (layout_of bytes) bytes s (verdict (module_of bytes)) refl zero_here l legal_here (accepted 0) (module_legal bytes) bytes_here h refl
+
+    pub admit_illegal : l ≡ false → (e : Refusal) → e ≡ record { rule = IllegalState; place = 0 } → Judged (module_of bytes) s (refusal e)
+    admit_illegal h e q = judged_illegal (layout_of bytes) bytes s (verdict (module_of bytes)) refl zero_here l legal_here (refusal e) h (rw q)

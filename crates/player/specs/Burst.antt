@@ -5,6 +5,7 @@ use Rattle.laws.specs.Ranges.{within}
 use Rattle.common.specs.Answers.{refused, accepted, Outcome, outcome, Line, line, refusing}
 use Rattle.reader.specs.File.{module_of}
 use Rattle.player.specs.declared.State.{State}
+use Rattle.player.specs.declared.touching.Burst.{Burst as LentBurst}
 use Rattle.player.specs.declared.Reply.{Reply}
 use Rattle.player.specs.State.{state_lines, reply}
 use Rattle.player.specs.Touch.{touch_of}
@@ -14,6 +15,10 @@ pub record Burst : Type 0 where
   pub pages : List ℕ
   pub mades : List ℕ
   pub positions : List ℕ
+
+-- lent as three lists
+abbrev pub as_burst : LentBurst → Burst
+as_burst b = record { pages = b.pages.now; mades = b.mades.now; positions = b.positions.now }
 
 -- ---- by a single call, which is given state, page, clock when made, and position
 module _ (touch : State → ℕ → ℕ → ℕ → Reply) (b : Burst) (s : State) where

@@ -1,15 +1,18 @@
 -- Legal states: as facts, with both ways between them and the test of refusal 14; and what the calls go by.
 -- Assumes nothing.
-use Rattle.std.specs.Prelude.{◌≡◌, ◌<◌, true, List, [], length}
+use Rattle.std.specs.Prelude.{◌≡◌, ◌<◌, true, List, [], length, Result, Ok, Err}
 use borrow.Author.Tests.{ltb-true, lt-ltb}
 use Rattle.laws.specs.Every.{all_at, all_by, Each}
 use Rattle.common.specs.Answers.{refused, accepted, refusing}
 use Rattle.common.specs.ByteLaws.{Bytes}
 use Rattle.common.specs.Limits.{width}
 use Rattle.common.specs.declared.Answer.{Answer}
+use Rattle.common.specs.declared.refusals.Refusal.{Refusal}
+use Rattle.common.specs.Refusals.{refusal}
 use Rattle.reader.specs.File.{Module, song_length}
 use Rattle.reader.specs.Judge.{verdict}
 use Rattle.reader.specs.Samples.{extents_of}
+use Rattle.reader.specs.declared.module.Module.{Module as ReadModule}
 use Rattle.sequencer.specs.declared.Song.{Song}
 use Rattle.reader.specs.Layouts.{LegalLayout}
 use Rattle.voice.specs.LegalFacts.{LegalVoices, voices_has, voices_by}
@@ -63,3 +66,8 @@ state_verdict m s = refusing refused (accepted 0) (state_lines m s [])
 pub record Judged (m : Module) (s : State) (v : Answer) : Type 0 where
   pub is : v ≡ state_verdict m s
   pub playable : v.number ≡ 0 → Playable m s
+
+-- as an answer: the module that goes on, or the refusal
+abbrev pub admitted : Result ReadModule Refusal → Answer
+admitted (Ok _) = accepted 0
+admitted (Err e) = refusal e

@@ -1,17 +1,20 @@
-// The player: states, play, touches and page changes. Every call judges the module again, and answers any state.
+// The player: states, play, touches and page changes. Every call judges the module again, and answers any state, which a refusal leaves as it was.
 #![tactic(auto)]
 
 ghost use Rattle.std.specs.Prelude.{◌≡◌};
 ghost use Rattle.common.specs.Answers.{refused, accepted, outcome};
+ghost use Rattle.common.specs.Refusals.{answered, judged};
 ghost use Rattle.player.specs.State.{fresh_state, reply};
 ghost use Rattle.player.specs.Play.{play_of};
 ghost use Rattle.player.specs.Touch.{change_page_of, touch_of};
-ghost use Rattle.player.specs.Burst.{burst_of};
-ghost use Rattle.player.specs.Quiet.{why_quiet_of};
+ghost use Rattle.player.specs.Burst.{as_burst, burst_of};
+ghost use Rattle.player.specs.Quiet.{why, why_quiet_of};
 
 use common::Answer;
 use common::limits::WIDTH;
+use common::refusals::{Refusal, Rule};
 use sequencer::Song;
+use touching::{Burst, Touch};
 use voice::Voice;
 use voice::quiet::Cause;
 
@@ -19,7 +22,7 @@ pub mod legality;
 mod moves;
 pub mod playing;
 mod quiet;
-mod touching;
+pub mod touching;
 
 // A state: the song, its voices and the remainder of the tick before. Any numbers may stand in it.
 #[derive(Clone, Copy)]
@@ -34,13 +37,6 @@ pub struct State {
 pub struct Reply {
     pub answer: Answer,
     pub state: State,
-}
-
-// What asking for the cause of quiet returns.
-#[derive(Clone, Copy)]
-pub enum Why {
-    Refused(Answer),
-    Because(Cause),
 }
 
 pub fn refuse(number: u32, place: usize, state: State) -> Reply
@@ -62,112 +58,80 @@ fn accept(count: usize, state: State) -> Reply
 }
 
 // The fresh state.
-pub fn fresh() -> State
-    ensures { result ≡ fresh_state }
-{
-    let voices = machine::fresh().voices;
-    State {
-        song: sequencer::fresh(),
-        voices: voices,
-        remainder: 0,
+impl Default for State {
+    ghost is_default = { λ state. state ≡ fresh_state };
+
+    #[tactic(auto, unfolding(crate::specs::State::fresh_state, machine::specs::Machine::fresh_machine))]
+    fn default() -> State {
+        let voices = machine::fresh().voices;
+        State {
+            song: Song::default(),
+            voices,
+            remainder: 0,
+        }
     }
 }
 
-// Plays the largest number of whole ticks, up to `ticks`, whose frames fit into out; the rest of out stays. The extents of the samples are found
-// once, for judging the state and for playing.
-pub fn play(file: &[u8], state: State, ticks: u32, out: &mut [i16]) -> Reply
-    ensures { outcome result out.new ≡ play_of file.now state ticks out.old }
+// Plays the largest number of whole ticks, up to `ticks`, whose frames fit into out; the rest of out stays. Counts them.
+pub fn play(file: &[u8], state: &mut State, ticks: u32, out: &mut [i16]) -> Result<usize, Refusal>
+    ensures { outcome (reply (answered result) state.new) out.new ≡ play_of file.now state.old ticks out.old }
 {
-    let layout = reader::offsets::layout_of(file);
-    let judged = reader::judge_by(layout, file);
-    let number = judged.number;
-    if number != 0 {
-        return refuse(number, judged.place, state);
-    }
-    let positions = reader::song::song_length(layout, file);
-    let extents = reader::samples::extents(layout, file);
-    if legality::legal_state(layout, file, positions, extents, state) {
-        let song = state.song;
-        let voices = state.voices;
-        return playing::play_ticks(
-            layout,
-            file,
-            extents,
-            song,
-            voices,
-            state.remainder,
-            ticks,
-            out,
-        );
-    }
-    refuse(14, 0, state)
+    let module = legality::admit(file, state)?;
+    let played = playing::play_ticks(
+        module.layout,
+        module.file,
+        module.extents,
+        state.song,
+        state.voices,
+        state.remainder,
+        ticks,
+        out,
+    );
+    *state = played.state;
+    Ok(played.answer.count)
 }
 
 // A page change: touches made on the page before are refused from now on.
-pub fn change_page(file: &[u8], state: State) -> Reply
-    ensures { result ≡ change_page_of file.now state }
+pub fn change_page(file: &[u8], state: &mut State) -> Result<(), Refusal>
+    ensures { reply (judged result) state.new ≡ change_page_of file.now state.old }
 {
-    let layout = reader::offsets::layout_of(file);
-    let judged = legality::judge_state(layout, file, state);
-    let number = judged.number;
-    if number != 0 {
-        return refuse(number, judged.place, state);
-    }
-    moves::turn_page(state)
+    legality::admit(file, state)?;
+    state.song = moves::page_changed(state.song);
+    Ok(())
 }
 
-// A touch: made on a page, at a clock, for a position of the song.
-pub fn touch(file: &[u8], state: State, page: u32, made: u32, position: u32) -> Reply
-    ensures { result ≡ touch_of file.now state page made position }
+// A touch.
+pub fn touch(file: &[u8], state: &mut State, touch: Touch) -> Result<(), Refusal>
+    ensures { reply (judged result) state.new ≡ touch_of file.now state.old touch.page touch.made touch.position }
 {
-    let layout = reader::offsets::layout_of(file);
-    let judged = legality::judge_state(layout, file, state);
-    let number = judged.number;
-    if number != 0 {
-        return refuse(number, judged.place, state);
-    }
-    let positions = reader::song::song_length(layout, file);
-    touching::touch_from(positions, state, page, made, position)
+    let module = legality::admit(file, state)?;
+    touching::take(module.positions, state, touch)
 }
 
-// A burst of touches, each made on a page, at a clock, for a position; an answer for each, and the rest of answers stays.
+// A burst of touches; an answer for each, and the rest of answers stays.
 pub fn touch_burst(
     file: &[u8],
-    state: State,
-    pages: &[u32],
-    mades: &[u32],
-    positions: &[u32],
+    state: &mut State,
+    burst: &Burst,
     answers: &mut [u32],
-) -> Reply
-    ensures { outcome result answers.new ≡ burst_of file.now state (record { pages = pages.now; mades = mades.now; positions = positions.now }) answers.old }
+) -> Result<usize, Refusal>
+    ensures { outcome (reply (answered result) state.new) answers.new ≡ burst_of file.now state.old (as_burst burst.now) answers.old }
 {
-    let layout = reader::offsets::layout_of(file);
-    let judged = legality::judge_state(layout, file, state);
-    let number = judged.number;
-    if number != 0 {
-        return refuse(number, judged.place, state);
-    }
-    let last = reader::song::song_length(layout, file);
-    touching::burst_from(last, state, pages, mades, positions, answers)
+    let module = legality::admit(file, state)?;
+    touching::take_burst(module.positions, state, burst, answers)
 }
 
 // Why a channel, from 1, is quiet in the next frame.
-pub fn why_quiet(file: &[u8], state: State, channel: u32) -> Why
-    ensures { result ≡ why_quiet_of file.now state channel }
+pub fn why_quiet(file: &[u8], state: &State, channel: u32) -> Result<Cause, Refusal>
+    ensures { why result ≡ why_quiet_of file.now state.now channel }
 {
-    let layout = reader::offsets::layout_of(file);
-    let judged = legality::judge_state(layout, file, state);
-    let number = judged.number;
-    if number != 0 {
-        return Why::Refused(common::refuse(number, judged.place));
-    }
+    let module = legality::admit(file, state)?;
     if channel == 0 {
-        return Why::Refused(common::refuse(25, 0));
+        return Err(Rule::Channel.at(0));
     }
     let i = channel as usize - 1;
-    if layout.channels <= i {
-        return Why::Refused(common::refuse(25, 0));
+    if module.layout.channels <= i {
+        return Err(Rule::Channel.at(0));
     }
-    let voices = state.voices;
-    Why::Because(quiet::voice_cause(layout, file, voices[i]))
+    Ok(quiet::voice_cause(&module, state.voices[i]))
 }

@@ -1,24 +1,16 @@
 // Why a voice is quiet, by the bytes of its own sample.
 ghost use Rattle.std.specs.Prelude.{◌≡◌, ◌≤◌};
-ghost use Rattle.reader.specs.File.{lent};
-ghost use Rattle.reader.specs.Judge.{verdict};
-ghost use Rattle.reader.specs.Layouts.{LegalLayout};
+ghost use Rattle.reader.specs.Modules.{as_module};
 ghost use Rattle.player.specs.Quiet.{voice_cause};
 
-use reader::Layout;
+use reader::module::Module;
 use voice::Voice;
 use voice::quiet::Cause;
 
-pub fn voice_cause(layout: Layout, file: &[u8], voice: Voice) -> Cause
-    requires layout { LegalLayout layout }
-    requires judged { (verdict (lent layout file.now)).number ≡ 0 }
-    requires known { voice.sample ≤ layout.samples }
-    ensures { result ≡ voice_cause (lent layout file.now) voice }
+pub fn voice_cause(m: &Module, voice: Voice) -> Cause
+    requires known { voice.sample ≤ m.now.layout.samples }
+    ensures { result ≡ voice_cause (as_module m.now) voice }
 {
-    let extents = reader::samples::extents(layout, file);
-    let k = voice.sample as usize;
-    let extent = extents[k];
-    let from = extent.from;
-    let to = extent.to;
-    voice::quiet::why(voice, &file[from..to])
+    let extent = m.extents[usize::from(voice.sample)];
+    voice::quiet::why(voice, &m.file[extent.from..extent.to])
 }

@@ -2,14 +2,17 @@
 #![tactic(auto)]
 
 ghost use Rattle.std.specs.Prelude.{◌≡◌};
-ghost use Rattle.player.specs.Quiet.{why_answer};
+ghost use Rattle.player.specs.State.{reply};
+ghost use Rattle.player.specs.Quiet.{why, why_answer};
 ghost use Rattle.replies.specs.Answers.{answer_cells, cells_after};
 ghost use Rattle.replies.specs.Pairs.{pair_in, pair_after, pair_tick_after};
 
 use cells::CELLS;
 use common::Answer;
+use common::refusals::Refusal;
 use floats::Pair;
-use player::{Reply, Why};
+use player::State;
+use voice::quiet::Cause;
 
 // An answer's cells.
 pub const ANSWER_CELLS: usize = 3;
@@ -20,19 +23,23 @@ pub const PAIR_CELLS: usize = 2;
 pub fn put_answer(a: Answer, answer: &mut [u64; ANSWER_CELLS])
     ensures { answer.new ≡ answer_cells a }
 {
-    *answer = [a.number as u64, a.place as u64, a.count as u64];
+    *answer = [u64::from(a.number), a.place as u64, a.count as u64];
 }
 
-// A refusal writes the answer alone.
-pub fn put_reply(reply: Reply, state: &mut [u32; CELLS], answer: &mut [u64; ANSWER_CELLS])
-    ensures answered { answer.new ≡ answer_cells reply.answer }
-    ensures stated { state.new ≡ cells_after reply state.old }
+// What a call says, and the state after it: a refusal writes the answer alone.
+pub fn put_reply(
+    said: Answer,
+    after: State,
+    state: &mut [u32; CELLS],
+    answer: &mut [u64; ANSWER_CELLS],
+)
+    ensures answered { answer.new ≡ answer_cells said }
+    ensures stated { state.new ≡ cells_after (reply said after) state.old }
 {
-    put_answer(reply.answer, answer);
-    if reply.answer.number != 0 {
+    put_answer(said, answer);
+    if said.number != 0 {
         return;
     }
-    let after = reply.state;
     *state = cells::cells_of(after);
 }
 
@@ -60,11 +67,11 @@ pub fn put_pair(a: Answer, last: Pair, pair: &mut [f32; PAIR_CELLS], tick: &mut 
 }
 
 // The count is the cause's number.
-pub fn why_answer(why: Why) -> Answer
-    ensures { result ≡ why_answer why }
+pub fn why_answer(caused: Result<Cause, Refusal>) -> Answer
+    ensures { result ≡ why_answer (why caused) }
 {
-    match why {
-        Why::Refused(a) => a,
-        Why::Because(c) => common::accept(voice::quiet::cause_number(c)),
+    match caused {
+        Ok(cause) => common::accept(voice::quiet::cause_number(cause)),
+        Err(e) => e.into(),
     }
 }

@@ -3,6 +3,10 @@
 -- Assumes nothing.
 use Rattle.agreement.specs.Parts.{part_inside, part_length}
 use Rattle.agreement.proofs.Laws.{called, agreed}
+use Rattle.common.specs.Answers.{outcome}
+use Rattle.common.specs.declared.Answer.{Answer}
+use Rattle.player.specs.State.{reply}
+use Rattle.std.proofs.Common.{ap, ◌∙◌}
 use borrow.Author.Rules.{rules}
 use Rattle.agreement.proofs.play_both.Goals as goal
 
@@ -16,4 +20,4 @@ pub returns-clause-calls : goal.returns-clause-calls
 returns-clause-calls c = search (called, rules)
 
 pub returns-clause-agrees : goal.returns-clause-agrees
-returns-clause-agrees c = λ v few l. agreed _ _ _ _ _ _ _ _ _ _ _ _ c.translate-translated.ensures c.fresh.ensures c.play-played.ensures c.play_stream-streamed.ensures (λ i. (c.shared_slice_known-1.given i).fits) v few l
+returns-clause-agrees c = λ v few l. agreed _ _ _ _ _ _ _ _ _ _ _ _ c.translate-translated.ensures c.default-after.ensures (ap (λ (a : Answer). outcome (reply a c.play-played.new.state) c.play-played.new.out) c.into.ensures ∙ c.play-played.ensures) c.play_stream-streamed.ensures (λ i. (c.shared_slice_known-1.given i).fits) v few l

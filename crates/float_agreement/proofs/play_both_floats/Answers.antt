@@ -16,4 +16,4 @@ pub returns-clause-calls : goal.returns-clause-calls
 returns-clause-calls c = search (called, rules)
 
 pub returns-clause-agrees : goal.returns-clause-agrees
-returns-clause-agrees c = λ v a few l. agreed _ _ _ _ _ _ _ _ _ _ _ _ _ _ _ c.translate-translated.ensures c.fresh.ensures c.play_floats-played.ensures c.play_stream_floats-streamed.ensures (λ i. (c.shared_slice_known-1.given i).fits) v a few l
+returns-clause-agrees c = λ v a few l. agreed _ _ _ _ _ _ _ _ _ _ _ _ _ _ _ c.translate-translated.ensures c.default.ensures c.play_floats-played.ensures c.play_stream_floats-streamed.ensures (λ i. (c.shared_slice_known-1.given i).fits) v a few l

@@ -1,23 +1,15 @@
--- Module and state are judged one after the other: a refusal leaves state and buffer, otherwise the play is the one that `play_ticks` ensures.
-use Rattle.player.proofs.Verdicts.{play_module, play_illegal, play_legal, legal_playable}
-use Rattle.reader.specs.Accept.{accepted_by}
+-- Module and state are judged: a refusal leaves state and buffer, otherwise the play is the one that `play_ticks` ensures.
+use Rattle.player.proofs.Admitted.{not_admitted, admitted_playable, play_admitted}
+use Rattle.player.specs.Play.{play_of}
 use Rattle.std.proofs.Common.{rules}
 use Rattle.player.proofs.play.Goals as goal
 
-pub returns-then-number-ne0 : goal.returns-then-number-ne0
-returns-then-number-ne0 c = search (play_module, rules)
+pub returns-in_err-module : goal.returns-in_err-module
+unfolding play_of
+returns-in_err-module c = search (not_admitted, rules)
 
-pub song_length-positions-requires : goal.song_length-positions-requires
-song_length-positions-requires c = search (accepted_by, rules)
-
-pub extents-extents-requires : goal.extents-extents-requires
-extents-extents-requires c = search (accepted_by, rules)
-
-pub play_ticks-requires-clause-playable : goal.play_ticks-requires-clause-playable
-play_ticks-requires-clause-playable c = search (legal_playable, rules)
-
-pub returns-then-legal_state : goal.returns-then-legal_state
-returns-then-legal_state c = search (play_legal, rules)
+pub play_ticks-played-requires-clause-playable : goal.play_ticks-played-requires-clause-playable
+play_ticks-played-requires-clause-playable c = search (admitted_playable, rules)
 
 pub returns : goal.returns
-returns c = search (play_illegal, rules)
+returns c = play_admitted _ _ c.in_ok-module.ensures.judged c.in_ok-module.module c.in_ok-module.ensures.lent _ _ c.play_ticks-played.result _ c.play_ticks-played.ensures

@@ -1,14 +1,12 @@
 -- By the verdict: a refusal leaves state and answers, otherwise the burst is decided by its own lines.
-use Rattle.player.specs.Judging.{judged_number}
-use Rattle.player.proofs.Bursts.{burst_refused, burst_passed}
+use Rattle.player.proofs.Admitted.{not_admitted, burst_admitted}
+use Rattle.player.specs.Burst.{burst_of}
 use Rattle.std.proofs.Common.{rules}
 use Rattle.player.proofs.touch_burst.Goals as goal
 
-pub returns-then-number-ne0 : goal.returns-then-number-ne0
-returns-then-number-ne0 c = search (burst_refused, rules)
-
-pub song_length-last-requires : goal.song_length-last-requires
-song_length-last-requires c = search (judged_number, rules)
+pub returns-in_err-module : goal.returns-in_err-module
+unfolding burst_of
+returns-in_err-module c = search (not_admitted, rules)
 
 pub returns : goal.returns
-returns c = search (burst_passed, rules)
+returns c = burst_admitted _ _ c.in_ok-module.ensures.judged c.in_ok-module.module c.in_ok-module.ensures.lent _ _ _ _ c.take_burst.ensures

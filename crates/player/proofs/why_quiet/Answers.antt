@@ -1,23 +1,22 @@
 -- A law for each answer, over what the tests before it showed.
-use Rattle.player.specs.Judging.{judged_number}
-use Rattle.player.proofs.Causes.{why_refused, known_sample, why_none, why_past, why_because}
-use Rattle.std.proofs.Common.{rules}
+use Rattle.player.proofs.Admitted.{not_admitted, known_voice, channel_0, channel_past, channel_quiet}
+use Rattle.player.specs.Quiet.{why_quiet_of}
+use Rattle.common.specs.Refusals.{refusal}
+use Rattle.std.proofs.Common.{ap, rules}
 use Rattle.player.proofs.why_quiet.Goals as goal
 
-pub returns-then-number-ne0 : goal.returns-then-number-ne0
-returns-then-number-ne0 c = search (why_refused, rules)
+pub returns-in_err-module : goal.returns-in_err-module
+unfolding why_quiet_of
+returns-in_err-module c = search (not_admitted, rules)
 
 pub returns-then-channel-eq0 : goal.returns-then-channel-eq0
-returns-then-channel-eq0 c = search (why_none, rules)
+returns-then-channel-eq0 c = channel_0 _ _ c.in_ok-module.ensures.judged c.in_ok-module.module c.in_ok-module.ensures.lent _ c.if-channel-eq0.true _ (ap refusal c.at.ensures)
 
-pub returns-then-layout-i : goal.returns-then-layout-i
-returns-then-layout-i c = search (why_past, rules)
+pub returns-then-module-i : goal.returns-then-module-i
+returns-then-module-i c = channel_past _ _ c.in_ok-module.ensures.judged c.in_ok-module.module c.in_ok-module.ensures.lent _ c.if-channel-eq0.false c.if-module-i.true _ (ap refusal c.at-then-module-i.ensures)
 
-pub voice_cause-requires-clause-judged : goal.voice_cause-requires-clause-judged
-voice_cause-requires-clause-judged c = search (judged_number, rules)
-
-pub voice_cause-requires-clause-known : goal.voice_cause-requires-clause-known
-voice_cause-requires-clause-known c = search (known_sample, rules)
+pub voice_cause-requires : goal.voice_cause-requires
+voice_cause-requires c = record { known = known_voice _ _ c.in_ok-module.ensures.judged c.in_ok-module.module c.in_ok-module.ensures.lent _ c.if-module-i.false }
 
 pub returns : goal.returns
-returns c = search (why_because, rules)
+returns c = channel_quiet _ _ c.in_ok-module.ensures.judged c.in_ok-module.module c.in_ok-module.ensures.lent _ c.if-channel-eq0.false c.if-module-i.false _ c.voice_cause.ensures
