@@ -25,7 +25,7 @@ use Rattle.effects.specs.Wavering.{vibrates, trembles}
 use Rattle.effects.specs.Commands.{after_sound, voiced_by, voiced}
 use Rattle.effects.specs.Legal.{fresh_channel, is_fresh, legal_channel}
 use Rattle.sequencer.specs.Row.{row_speed, row_delay, row_loop, row_move, row_time, row_flow, flow_from, flow_through}
-use Rattle.sequencer.specs.Songs.{fresh_song, fresh_sounding, next_of, course_by, song_by, song_work, voiced_on, all_voiced, next_tick, time_to, course_to, desk_after, advanced, tick_with, tick_of}
+use Rattle.sequencer.specs.Songs.{fresh_song, fresh_sounding, next_of, course_by, song_by, song_work, voiced_on, all_voiced, next_tick, time_to, course_to, desk_after, advanced, tick_with, tick_of, led_to, passed}
 use Rattle.sequencer.specs.Legal.{legal_place, legal_loop, legal_course, legal_time, legal_or_fresh, legal_at, legal_song}
 use Rattle.sequencer.specs.Runs.{song_after}
 use Rattle.voice.specs.declared.Voice.{Voice}
@@ -147,7 +147,7 @@ pub cases : Cases
 unfolding header row bytes file channels_of four_at left clock3 refusing each partly
     some total largest patterns_of sample_place cell_from cell_at extent_of
     is_portamento is_note vibrates trembles moved printed entry first place_of tuned kept semitones lowered towards arpeggio transposed arpeggiated sounded_period sounded_volume given_finetune row_finetune given_period row_period row_channel slides_volume tick_volume tick_period tick_channel worked after_sound voiced_by voiced
-    row_speed row_delay row_loop row_move row_time row_flow flow_from flow_through fresh_song next_of course_by song_by song_work voiced_on all_voiced next_tick time_to course_to desk_after advanced tick_with tick_of song_after
+    row_speed row_delay row_loop row_move row_time row_flow flow_from flow_through fresh_song led_to passed next_of course_by song_by song_work voiced_on all_voiced next_tick time_to course_to desk_after advanced tick_with tick_of song_after
     arrive_at silent_of signed_of read_at gives_of growth_of carried step_of told_of steps_of side_of sum_of scale_of frames_from mixed carried_at length_at begins tick_length frames age_of
 cases =
     record {

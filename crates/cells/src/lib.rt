@@ -267,8 +267,7 @@ fn channels_of(cells: &[u32; CELLS]) -> [Channel; WIDTH]
 fn voices_of(cells: &[u32; CELLS]) -> [Voice; WIDTH]
     ensures { result ≡ each (λ i. voice_of cells.now (channel_place i + own_cell_count)) width }
 {
-    let voice = Voice::fresh();
-    let mut voices = [voice; WIDTH];
+    let mut voices = [Voice::default(); WIDTH];
     for i in 0..WIDTH {
         voices[i] = voice_of(cells, SONG_CELLS + CHANNEL_CELLS * i + OWN_CELLS);
     }

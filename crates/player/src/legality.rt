@@ -19,7 +19,7 @@ fn is_legal(m: &Module, state: &State) -> bool
     ensures { result ≡ legal_state (as_module m.now) state.now }
 {
     let song = state.song.is_legal(m);
-    let voices = voice::legal::legal_voices(m.layout, m.extents, state.voices);
+    let voices = voice::legal::legal_for(m, &state.voices);
     let rest = state.remainder < state.song.time.tempo;
     song & voices & rest
 }

@@ -71,7 +71,7 @@ pub fn why_answer(caused: Result<Cause, Refusal>) -> Answer
     ensures { result ≡ why_answer (why caused) }
 {
     match caused {
-        Ok(cause) => common::accept(voice::quiet::cause_number(cause)),
+        Ok(cause) => common::accept(cause.into()),
         Err(e) => e.into(),
     }
 }
