@@ -1,7 +1,7 @@
 // Bytes, and numbers of two and four bytes, the high byte first.
 ghost use Rattle.std.specs.Prelude.{◌≡◌, ◌+◌, ◌*◌, ◌^◌, ◌≤◌, ◌<◌, length};
 ghost use Rattle.std.proofs.lemmas.List.Edits.{sets};
-ghost use Rattle.common.specs.Bytes.{byte_at, word_at, four_at, four_bytes, bit};
+ghost use Rattle.common.specs.Bytes.{byte_at, word_at, four_at, four_bytes};
 
 pub fn wide(x: u8) -> usize
     ensures { (result ≡ x) × (result < 256) }
@@ -10,10 +10,17 @@ pub fn wide(x: u8) -> usize
 }
 
 // The byte at a place, 0 past the end.
+pub fn byte_or_0(bytes: &[u8], at: usize) -> u8
+    ensures { result ≡ byte_at bytes.now at }
+{
+    bytes.get(at).copied().unwrap_or(0)
+}
+
+// The same as a wider number.
 pub fn byte(bytes: &[u8], at: usize) -> u32
     ensures { (result ≡ byte_at bytes.now at) × (result < 256) }
 {
-    bytes.get(at).map_or(0, |byte| u32::from(*byte))
+    u32::from(byte_or_0(bytes, at))
 }
 
 pub fn word(bytes: &[u8], at: usize) -> usize
@@ -38,11 +45,4 @@ pub fn put_four(n: usize, at: usize, room: &mut [u8])
 {
     let four = (n % (1 << 32)) as u32;
     room[at..at + 4].copy_from_slice(&four.to_be_bytes());
-}
-
-// A flag as a number.
-pub fn bit_of(b: bool) -> u8
-    ensures { (result ≡ bit b) × (result < 2) }
-{
-    u8::from(b)
 }

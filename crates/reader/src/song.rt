@@ -3,14 +3,13 @@ ghost use Rattle.std.specs.Prelude.{◌≡◌, ◌+◌, ◌-◌, ◌*◌, ◌<�
 ghost use Rattle.reader.specs.File.{lent, song_length, header_finetune, header_volume};
 ghost use Rattle.reader.specs.Judge.{verdict};
 ghost use Rattle.common.specs.ByteLaws.{Bytes};
-ghost use Rattle.common.specs.Bytes.{byte_at};
 ghost use Rattle.reader.specs.Cells.{effect_of, cell_of, cell_from, row_offset};
 ghost use Rattle.common.specs.Limits.{width};
 ghost use Rattle.reader.specs.Layouts.{LegalLayout};
 
 use crate::offsets::{CELL_BYTES, FINETUNE_AT, HEADER_BYTES, HEADERS_AT, VOLUME_AT};
 use crate::{Cell, Layout};
-use common::bytes::byte;
+use common::bytes::byte_or_0;
 use common::limits::ROWS;
 
 // The song length; and that the file's elements are bytes, which a caller's proof may need.
@@ -23,13 +22,6 @@ pub fn song_length(layout: Layout, file: &[u8]) -> u32
 {
     let at = layout.song;
     u32::from(file[at])
-}
-
-// The byte at a place, 0 past the end.
-fn read_at(file: &[u8], at: usize) -> u8
-    ensures { result ≡ byte_at file.now at }
-{
-    file.get(at).copied().unwrap_or(0)
 }
 
 #[tactic(auto, using(laws::specs::Tests::tests))]
@@ -62,10 +54,10 @@ fn cell_from(file: &[u8], at: usize) -> Cell
         return cell_of(file[at], file[at + 1], file[at + 2], file[at + 3]);
     }
     cell_of(
-        read_at(file, at),
-        read_at(file, at + 1),
-        read_at(file, at + 2),
-        read_at(file, at + 3),
+        byte_or_0(file, at),
+        byte_or_0(file, at + 1),
+        byte_or_0(file, at + 2),
+        byte_or_0(file, at + 3),
     )
 }
 
@@ -75,8 +67,8 @@ pub fn row_at(layout: Layout, file: &[u8], position: u32, row: u32) -> usize
     ensures place { result ≡ row_offset (lent layout file.now) position row }
     ensures low { result < 2 ^ 62 }
 {
-    let entry = byte(file, layout.table + position as usize);
-    let row = ROWS * entry as usize + row as usize;
+    let entry = usize::from(byte_or_0(file, layout.table + position as usize));
+    let row = ROWS * entry + row as usize;
     layout.patterns + CELL_BYTES * crate::offsets::cells_in(layout, row)
 }
 
@@ -94,7 +86,7 @@ pub fn header_volume(file: &[u8], k: u8) -> u8
     ensures { result ≡ header_volume file.now (k - 1) }
 {
     let header = HEADERS_AT + HEADER_BYTES * usize::from(k - 1);
-    read_at(file, header + VOLUME_AT)
+    byte_or_0(file, header + VOLUME_AT)
 }
 
 // The finetune of the header of sample number k, from 1: 0 to 15, 8 to 15 meaning -8 to -1.
@@ -103,5 +95,5 @@ pub fn header_finetune(file: &[u8], k: u8) -> u8
     ensures { result ≡ header_finetune file.now (k - 1) }
 {
     let header = HEADERS_AT + HEADER_BYTES * usize::from(k - 1);
-    read_at(file, header + FINETUNE_AT) % 16
+    byte_or_0(file, header + FINETUNE_AT) % 16
 }
