@@ -1,6 +1,6 @@
 -- A record that lies ahead whole (`awaited_plays`): fed byte by byte, its bytes play its tick and nothing else. So a board may take it at once.
 -- Assumes nothing.
-use Rattle.std.specs.Prelude.{ℕ, suc, ◌+◌, ◌-◌, ◌*◌, ◌^◌, ◌≤◌, ◌<◌, ◌≡◌, Bool, true, false, not, length, take, drop, eqb, ltb}
+use Rattle.std.specs.Prelude.{ℕ, suc, ◌+◌, ◌-◌, ◌*◌, ◌^◌, ◌≤◌, ◌<◌, ◌≡◌, Bool, true, false, not, length, take, drop, eqb, ltb, Option, IfSome}
 use Rattle.std.proofs.Math.Path.{refl, ap}
 use Rattle.std.proofs.Common.{sym, subst, ◌∙◌, true≢false, add-one, arith, length-append, length-drop, take-append-drop, length-take-le, eqb-true, ltb-true}
 use mathlib.Core.List.{List, [], ◌∷◌, ◌++◌, append-nil, append_assoc}
@@ -14,7 +14,7 @@ use Rattle.ticks.specs.Play.{Mechanism, after_all, rendered}
 use Rattle.records.specs.Format.{version_place, head_bytes, body_bytes, Read, bad, short, read, read_record}
 use Rattle.records.specs.Reads.{not-read}
 use Rattle.records.specs.Prefixes.{Agrees, record_agrees, record_least, record_end, record_none, short_most}
-use Rattle.decoder.specs.declared.Record.{Record}
+use Rattle.decoder.specs.declared.reading.Record.{Record}
 use Rattle.arrival.specs.declared.Arrival.{Arrival}
 use Rattle.arrival.specs.Arrive.{kept_bytes, total, keep, played, end_shows, open_shows, Step, holds, plays, record_step, step}
 use Rattle.arrival.specs.Feed.{Fed, fed, step_frames, step_after, feeding}
@@ -56,8 +56,8 @@ pub record Lies (last c : ℕ) (registers : List Command) (p : Arrival) (bs : Li
   pub few : p.place + (r.next - i) < 2 ^ 40
 
 -- what was found there is such a record, if it is one
-pub record Found (last c : ℕ) (registers : List Command) (p : Arrival) (bs : List ℕ) (i : ℕ) (r : Record) : Type 0 where
-  pub lies : r.ok ≡ true → Lies last c registers p bs i r
+pub record Found (last c : ℕ) (registers : List Command) (p : Arrival) (bs : List ℕ) (i : ℕ) (r : Option Record) : Type 0 where
+  pub lies : IfSome r (λ x. Lies last c registers p bs i x)
 
 -- bytes more are kept
 abbrev pub laid : Arrival → List ℕ → Arrival
