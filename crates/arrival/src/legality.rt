@@ -1,5 +1,5 @@
 // Whether an arrival that a caller lent is legal: its numbers, and the fault that its bytes show.
-ghost use Rattle.std.specs.Prelude.{◌≡◌, true, ◌^◌, ◌≤◌, ◌<◌, take};
+ghost use Rattle.std.specs.Prelude.{◌≡◌, true, ◌^◌, ◌≤◌, ◌<◌, length, take};
 ghost use Rattle.records.specs.Format.{read_record};
 ghost use Rattle.arrival.specs.Arrive.{kept_bytes, taken, faulty, stated_channels, record_shows, rest_shows, shows, keeps, most_records, legal_arrival};
 ghost use Rattle.arrival.specs.Answers.{settled};
@@ -95,7 +95,9 @@ impl Arrival {
     // Whether an arrival that a caller lent is legal. The fault is looked for as if none were kept.
     #[tactic(auto, unfolding(crate::specs::Arrive::legal_arrival))]
     pub fn is_legal(&self, scope: &Scope, registers: &[Command; WIDTH]) -> bool
-        ensures { (result ≡ legal_arrival scope.now.last scope.now.channels registers.now self.now) × (result ≡ true → taken self.now < 2 ^ 40) }
+        ensures is { result ≡ legal_arrival scope.now.last scope.now.channels registers.now self.now }
+        ensures few { result ≡ true → taken self.now < 2 ^ 40 }
+        ensures long { length self.now.bytes ≡ kept_bytes }
     {
         if self.most_records() < self.records {
             return false;

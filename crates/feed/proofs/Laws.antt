@@ -1,33 +1,30 @@
 -- Laws of the board's machine and of one byte, in the form in which the code's tests and calls leave their facts.
 -- Assumes nothing.
 use Prim.Native.Nat.{ℕ, ◌^◌, ◌≤◌, ◌<◌}
-use mathlib.Core.Path.{◌≡◌, refl, sym, ap, ◌∙◌}
+use mathlib.Core.Path.{◌≡◌, refl, sym, ap, subst, ◌∙◌}
 use mathlib.Core.Bool.{Bool, true, false, not, cond, ◌&&◌, true≢false}
-use mathlib.Core.List.{List, []}
+use mathlib.Core.List.{List, [], ◌∷◌}
 use native.Mathlib.Omega.{arith}
 use lib.Dec.{eqb, ltb}
 use lib.IntN.{ℤ}
 use lib.ListN.{length, get_or}
-use borrow.Author.Tests.{eqb-true, eqb-false, le-ltb, not-true, not-false}
+use borrow.Author.Tests.{eq-eqb, ne_eqb, eqb-true, eqb-false, le-ltb}
+use Rattle.std.specs.Prelude.{Option, None, Some}
 use Rattle.laws.specs.Ranges.{all, all_from}
-use Rattle.laws.specs.Every.{first_of, second_of}
-use Rattle.laws.specs.Each.{Filled, fill_end}
+use Rattle.laws.specs.Every.{second_of}
 use Rattle.common.specs.Limits.{width, greatest_tempo}
 use Rattle.common.specs.Answers.{refused, accepted}
 use Rattle.common.specs.AnswerLaws.{no_line, line_given, line_passed}
 use Rattle.common.specs.declared.Answer.{Answer}
 use Rattle.ticks.specs.declared.Command.{Command}
 use Rattle.ticks.specs.declared.Tick.{Tick}
-use Rattle.ticks.specs.Commands.{nothing}
-use Rattle.ticks.specs.Play.{over}
+use Rattle.ticks.specs.Play.{Mechanism, over, after_all}
 use Rattle.reader.specs.File.{Module, lent}
-use Rattle.reader.specs.Layouts.{LegalLayout}
-use Rattle.reader.specs.Judge.{verdict}
-use Rattle.reader.specs.Accept.{verdict_answer, accepted_by, module_given, module_passed}
+use Rattle.reader.specs.Modules.{as_module}
+use Rattle.reader.specs.Accept.{module_passed}
 use Rattle.reader.specs.Samples.{Sample, extents_of}
 use Rattle.reader.specs.declared.Extent.{Extent}
-use Rattle.reader.specs.declared.Layout.{Layout}
-use Rattle.voice.specs.Frames.{blank}
+use Rattle.reader.specs.declared.module.Module.{Module as ReadModule}
 use Rattle.voice.specs.LegalFacts.{Ready}
 use Rattle.voice.specs.Legal.{legal_voices}
 use Rattle.voice.specs.Modules.{samples_in}
@@ -35,57 +32,43 @@ use Rattle.machine.specs.declared.Machine.{Machine}
 use Rattle.machine.specs.Lengths.{carried_at}
 use Rattle.machine.specs.Machine.{begins, frames, after, mechanism}
 use Rattle.machine.specs.Turn.{Turned, turn, turn_of}
+use Rattle.machine.specs.Turns.{turn_machine}
 use Rattle.arrival.specs.declared.Arrival.{Arrival}
-use Rattle.arrival.specs.declared.Took.{Took}
-use Rattle.arrival.specs.Arrive.{kept_bytes, bytes_of, taken, keep, Step, holds, plays, step, legal_arrival}
-use Rattle.arrival.specs.Answers.{as_took}
+use Rattle.arrival.specs.Answers.{as_step}
+use Rattle.arrival.specs.Arrive.{kept_bytes, bytes_of, taken, keep, holds, plays, step, legal_arrival}
 use Rattle.arrival.specs.Ready as arriving
-use Rattle.arrival.specs.Feed.{fed, step_frames, step_after}
+use Rattle.arrival.specs.Feed.{Fed, fed, step_frames, step_after}
 use Rattle.feed.specs.declared.Board.{Board}
-use Rattle.feed.specs.Feed.{register_of, registers_of, kept_under, begun, left, frames_under, after_under, under, takes, legal_remainder, legal_board}
+use Rattle.feed.specs.Boards.{state_of, taking, Held, held_sound, sound_held}
+use Rattle.feed.specs.Feed.{registers_of, kept_under, begun, left, frames_under, after_under, under, legal_remainder, legal_board}
 use Rattle.feed.specs.Rule.{framed, afterwards}
-use Rattle.feed.specs.Sound.{Sound, tick_low, tick_high, tick_ready}
-use Rattle.feed.specs.Judged.{Begun, Tested, Judged}
-
--- ---- the registers
-pub registers_end : (w : Machine) (xs : List Command) (i : ℕ) → Filled (λ j. register_of (get_or w.voices j blank)) nothing width xs i → width ≤ i → xs ≡ registers_of w
-unfolding registers_of
-registers_end w xs i f h = fill_end (λ j. register_of (get_or w.voices j blank)) nothing width xs i f h
+use Rattle.feed.specs.Several.{several, several_one}
+use Rattle.feed.specs.Sound.{Sound, sound_all, tick_low, tick_high, tick_ready}
+use Rattle.feed.specs.Judged.{Begun, Tested, Judged, Legal, legal_sound}
 
 -- ---- the machine as a tick finds it
-module _ (keeps : Bool) (w : Machine) (tempo : ℕ) (b : Bool) (e : b ≡ (keeps && eqb tempo w.tempo)) where
-  pub begun_on : b ≡ true → ((w.remainder ≡ 0 → ⊥) → w.remainder < w.tempo) → tempo ≤ greatest_tempo → Begun keeps w tempo w
+module _ (keeps : Bool) (w : Machine) (tempo : ℕ) where
+  pub begun_on : keeps ≡ true → tempo ≡ w.tempo → ((w.remainder ≡ 0 → ⊥) → w.remainder < w.tempo) → tempo ≤ greatest_tempo → Begun keeps w tempo w
   unfolding begun
-  begun_on t rest most =
-      let k : keeps ≡ true = first_of keeps (eqb tempo w.tempo) (sym e ∙ t) in
-      let q : tempo ≡ w.tempo = eqb-true tempo w.tempo (second_of keeps (eqb tempo w.tempo) (sym e ∙ t)) in
-      record { voices = rw k; own = refl; begin = λ u z. rw k; low = low (eqb w.remainder 0) refl q }
+  begun_on k q rest most =
+      record { voices = rw k; own = refl; begin = λ u z. rw k; low = low (eqb w.remainder 0) refl }
     where
-      low : (z : Bool) → eqb w.remainder 0 ≡ z → tempo ≡ w.tempo → w.remainder ≤ greatest_tempo
-      low true z q = omega (arith, eqb-true w.remainder 0 z)
-      low false z q = omega (arith, rest (eqb-false w.remainder 0 z))
+      low : (z : Bool) → eqb w.remainder 0 ≡ z → w.remainder ≤ greatest_tempo
+      low true z = omega (arith, eqb-true w.remainder 0 z)
+      low false z = omega (arith, rest (eqb-false w.remainder 0 z))
 
-  pub begun_off : b ≡ false → Begun keeps w tempo (record { voices = w.voices; tempo = w.tempo; remainder = 0 })
+  abbrev bare : Machine
+  bare = record { voices = w.voices; tempo = w.tempo; remainder = 0 }
+
+  pub begun_new : keeps ≡ true → (tempo ≡ w.tempo → ⊥) → Begun keeps w tempo bare
   unfolding begun begins carried_at
-  begun_off f = go keeps refl
-    where
-      pick : (z : Bool) → cond {A = ℕ} z 0 0 ≡ 0
-      pick true = refl
-      pick false = refl
+  begun_new k n =
+      let f : eqb tempo w.tempo ≡ false = ne_eqb tempo w.tempo n in
+      record { voices = rw k; own = refl; begin = λ u z. rw (k, z, f); low = omega arith }
 
-      go : (k : Bool) → keeps ≡ k → Begun keeps w tempo (record { voices = w.voices; tempo = w.tempo; remainder = 0 })
-      go true k =
-          let n : eqb tempo w.tempo ≡ false = sym (rw k) ∙ sym e ∙ f in
-          record { voices = rw k; own = refl; begin = λ u z. rw (k, z, n); low = omega arith }
-      go false k = record { voices = rw k; own = refl; begin = λ u z. rw k; low = omega arith }
-
-pub left_on : (keeps : Bool) (w x : Machine) → keeps ≡ true → x ≡ left keeps w x
-unfolding left
-left_on keeps w x e = rw e
-
-pub left_off : (keeps : Bool) (w x : Machine) → keeps ≡ false → record { voices = x.voices; tempo = w.tempo; remainder = w.remainder } ≡ left keeps w x
-unfolding left
-left_off keeps w x e = rw e
+  pub begun_old : keeps ≡ false → Begun keeps w tempo bare
+  unfolding begun
+  begun_old k = record { voices = rw k; own = refl; begin = λ u z. rw k; low = omega arith }
 
 -- ---- a tick by the rule of a version
 pub ready_own : (m : Module) (extents : List Extent) (w : Machine) (cs : List Command) (keeps : Bool) (tempo : ℕ) (x : Machine) → Ready m extents w.voices cs → Begun keeps w tempo x → Ready m extents x.voices cs
@@ -128,109 +111,110 @@ module _ (c : ℕ) (samples : ℕ → Sample) (version : ℕ) (keeps : Bool) (ke
         go true z q = absurd (true≢false (sym (ap (λ (u : Turned ℤ Machine). u.full) q) ∙ f))
         go false z q = rw ye (ap (λ (u : Turned ℤ Machine). turn false u.size (left keeps w u.machine) u.out) q ∙ sym (board_turn ∙ rw z))
 
--- ---- what the step's answer says
-module _ (rs : List Command) (x : Step) (took : Took) (e : took ≡ as_took rs x) where
-  took_holds : took.whole ≡ false → x ≡ holds took.arrival
-  unfolding as_took
-  took_holds t = go x e
-    where
-      go : (y : Step) → took ≡ as_took rs y → y ≡ holds took.arrival
-      go (holds q) z = rw z
-      go (plays u q) z = absurd (true≢false (sym (ap (λ (k : Took). k.whole) z) ∙ t))
+-- ---- what a turn leaves
+-- where it does not fit, the machine as it was
+pub turn_stays : {A W S : Type 0} (m : Mechanism A W S) (w : W) (t : S) (out : List A) (r : Turned A W) → r ≡ turn_of m w t out → r.full ≡ true → r.machine ≡ w
+unfolding turn_of
+turn_stays {A} {W} m w t out r e f = go (ltb (length out) (length (m.frames w t))) e
+  where
+    go : (z : Bool) → r ≡ cond z (turn true 0 w out) (turn false (length (m.frames w t)) (m.after w t) (over (m.frames w t) out)) → r.machine ≡ w
+    go true q = ap (λ (y : Turned A W). y.machine) q
+    go false q = absurd (true≢false (sym f ∙ ap (λ (y : Turned A W). y.full) q))
 
-  took_plays : took.whole ≡ true → x ≡ plays took.tick took.arrival
-  unfolding as_took
-  took_plays t = go x e
+module _ (m : ReadModule) (b : Board) (g : Held m b) (out out' : List ℤ) (full : Bool) (size : ℕ) (c : Board) where
+  -- after bytes, what is held is so still
+  pub held_run : (run : List ℕ) → turn full size (state_of c) out' ≡ turn_of (several (taking m)) (state_of b) run out → Held m c
+  held_run run e = go full refl
     where
-      go : (y : Step) → took ≡ as_took rs y → y ≡ plays took.tick took.arrival
-      go (holds q) z = absurd (true≢false (sym t ∙ ap (λ (k : Took). k.whole) z))
-      go (plays u q) z = rw z
+      sound : (z : Fed Machine) → state_of c ≡ z → Sound m.layout m.file.now m.extents z.arrival z.machine → Held m c
+      sound z q s = sound_held m c (subst (λ (y : Fed Machine). Sound m.layout m.file.now m.extents y.arrival y.machine) (sym q) s)
+
+      go : (f : Bool) → full ≡ f → Held m c
+      go true f = sound (state_of b) (turn_stays (several (taking m)) (state_of b) run out (turn full size (state_of c) out') e f) (held_sound m b g)
+      go false f = sound (after_all (taking m) (state_of b) run) (turn_machine (several (taking m)) (state_of b) run out (turn full size (state_of c) out') e f) (sound_all m.layout m.file.now m.extents run (state_of b) (held_sound m b g))
+
+  pub held_byte : (d : ℕ) → turn full size (state_of c) out' ≡ turn_of (taking m) (state_of b) d out → Held m c
+  held_byte d e = held_run (d ∷ []) (e ∙ sym (several_one (taking m) (state_of b) d out))
 
 -- ---- a byte
-module _ (layout : Layout) (bytes : List ℕ) (extents : List Extent) (p : Arrival) (w : Machine) (g : Sound layout bytes extents p w) (b : ℕ) (rs : List Command) (re : rs ≡ registers_of w) (last : ℕ) (le : last ≡ layout.samples) (took : Took) (te : took ≡ as_took rs (step last layout.channels rs p b)) where
-  abbrev m : Module
-  m = lent layout bytes
+module _ (m : ReadModule) (b : Board) (g : Held m b) (d : ℕ) (rs : List Command) (re : rs ≡ registers_of b.machine) (last c : ℕ) (sl : last ≡ m.layout.samples) (sc : c ≡ m.layout.channels) (o : Option Tick) (q : Arrival) (te : as_step o q ≡ step last c rs b.arrival d) where
+  here : as_step o q ≡ step m.layout.samples m.layout.channels (registers_of b.machine) b.arrival d
+  here = rw (sl, sc, re) at te
 
-  here : took ≡ as_took rs (step layout.samples layout.channels (registers_of w) p b)
-  here = rw (← le, ← re) te
-
-  pub byte_holds : (out : List ℤ) → not took.whole ≡ true → turn false 0 (fed took.arrival w) out ≡ turn_of (takes layout.samples layout.channels (samples_in m extents)) (fed p w) b out
+  pub byte_holds : o ≡ None → (out : List ℤ) → turn false 0 (fed q b.machine) out ≡ turn_of (taking m) (state_of b) d out
   unfolding turn_of step_frames step_after
-  byte_holds out t =
-      let x : step layout.samples layout.channels (registers_of w) p b ≡ holds took.arrival = took_holds rs _ took here (not-true took.whole t) in
-      rw (x, le-ltb (length out) 0 (omega arith))
+  byte_holds n out =
+      let x : holds q ≡ step m.layout.samples m.layout.channels (registers_of b.machine) b.arrival d = rw n at here in
+      rw (← x, le-ltb (length out) 0 (omega arith))
 
-  module _ (t : not took.whole ≡ false) where
-    plays_on : step layout.samples layout.channels (registers_of w) p b ≡ plays took.tick took.arrival
-    plays_on = took_plays rs _ took here (not-false took.whole t)
+  module _ (t : Tick) (n : o ≡ Some t) where
+    plays_on : step m.layout.samples m.layout.channels (registers_of b.machine) b.arrival d ≡ plays t q
+    plays_on = sym (rw n at here)
 
-    done : arriving.Completes layout.samples layout.channels (registers_of w) p b took.tick
-    done = arriving.plays_read layout.samples layout.channels (registers_of w) p b took.tick took.arrival plays_on
+    done : arriving.Completes m.layout.samples m.layout.channels (registers_of b.machine) b.arrival d t
+    done = arriving.plays_read m.layout.samples m.layout.channels (registers_of b.machine) b.arrival d t q plays_on
 
-    pub byte_high : took.tick.tempo ≤ greatest_tempo
-    byte_high = tick_high layout bytes extents p w g (bytes_of (keep p b)) 0 took.tick done.next done.is
+    pub byte_high : t.tempo ≤ greatest_tempo
+    byte_high = tick_high m.layout m.file.now m.extents b.arrival b.machine (held_sound m b g) (bytes_of (keep b.arrival d)) 0 t done.next done.is
 
-    pub byte_some : 0 < took.tick.tempo
-    byte_some = omega (arith, tick_low layout bytes extents p w g (bytes_of (keep p b)) 0 took.tick done.next done.is)
+    pub byte_some : 0 < t.tempo
+    byte_some = omega (arith, tick_low m.layout m.file.now m.extents b.arrival b.machine (held_sound m b g) (bytes_of (keep b.arrival d)) 0 t done.next done.is)
 
-    pub byte_ready : Ready (lent layout bytes) extents w.voices took.tick.commands
-    byte_ready = tick_ready layout bytes extents p w g (bytes_of (keep p b)) 0 took.tick done.next done.is w refl
+    pub byte_ready : Ready (as_module m) m.extents b.machine.voices t.commands
+    byte_ready = tick_ready m.layout m.file.now m.extents b.arrival b.machine (held_sound m b g) (bytes_of (keep b.arrival d)) 0 t done.next done.is b.machine refl
 
-    module _ (out out' : List ℤ) (full : Bool) (size : ℕ) (moved : Machine) (ue : turn full size moved out' ≡ turn_of (under layout.channels (samples_in m extents) p.version) w took.tick out) where
+    -- the tick's turn is the byte's
+    module _ (out out' : List ℤ) (size : ℕ) (w : Machine) where
+      abbrev its : Mechanism ℤ Machine Tick
+      its = under m.layout.channels (samples_in (as_module m) m.extents) b.arrival.version
+
       abbrev gs : List ℤ
-      gs = frames_under layout.channels (samples_in m extents) p.version w took.tick
+      gs = frames_under m.layout.channels (samples_in (as_module m) m.extents) b.arrival.version b.machine t
 
-      -- the tick's turn is the byte's
-      byte_turn : turn_of (takes layout.samples layout.channels (samples_in m extents)) (fed p w) b out ≡ cond (ltb (length out) (length gs)) (turn true 0 (fed p w) out) (turn false (length gs) (fed took.arrival (after_under layout.channels (samples_in m extents) p.version w took.tick)) (over gs out))
+      byte_turn : turn_of (taking m) (state_of b) d out ≡ cond (ltb (length out) (length gs)) (turn true 0 (state_of b) out) (turn false (length gs) (fed q (after_under m.layout.channels (samples_in (as_module m) m.extents) b.arrival.version b.machine t)) (over gs out))
       unfolding turn_of step_frames step_after
       byte_turn = rw plays_on
 
-      pub byte_full : full ≡ true → turn true 0 (fed p w) out' ≡ turn_of (takes layout.samples layout.channels (samples_in m extents)) (fed p w) b out
+      pub byte_full : turn true 0 w out' ≡ turn_of its b.machine t out → turn true 0 (fed b.arrival w) out' ≡ turn_of (taking m) (state_of b) d out
       unfolding turn_of
-      byte_full f = go (ltb (length out) (length gs)) refl ue
+      byte_full ue = go (ltb (length out) (length gs)) refl ue
         where
-          go : (z : Bool) → ltb (length out) (length gs) ≡ z → turn full size moved out' ≡ cond z (turn true 0 w out) (turn false (length gs) (after_under layout.channels (samples_in m extents) p.version w took.tick) (over gs out))
-              → turn true 0 (fed p w) out' ≡ turn_of (takes layout.samples layout.channels (samples_in m extents)) (fed p w) b out
-          go true z q = ap (λ (y : Turned ℤ Machine). turn true 0 (fed p w) y.out) q ∙ sym (byte_turn ∙ rw z)
-          go false z q = absurd (true≢false (sym f ∙ ap (λ (y : Turned ℤ Machine). y.full) q))
+          go : (z : Bool) → ltb (length out) (length gs) ≡ z → turn true 0 w out' ≡ cond z (turn true 0 b.machine out) (turn false (length gs) (after_under m.layout.channels (samples_in (as_module m) m.extents) b.arrival.version b.machine t) (over gs out))
+              → turn true 0 (fed b.arrival w) out' ≡ turn_of (taking m) (state_of b) d out
+          go true z x = ap (λ (y : Turned ℤ Machine). turn true 0 (fed b.arrival y.machine) y.out) x ∙ sym (byte_turn ∙ rw z)
+          go false z x = absurd (true≢false (ap (λ (y : Turned ℤ Machine). y.full) x))
 
-      pub byte_plays : full ≡ false → turn false size (fed took.arrival moved) out' ≡ turn_of (takes layout.samples layout.channels (samples_in m extents)) (fed p w) b out
+      pub byte_plays : turn false size w out' ≡ turn_of its b.machine t out → turn false size (fed q w) out' ≡ turn_of (taking m) (state_of b) d out
       unfolding turn_of
-      byte_plays f = go (ltb (length out) (length gs)) refl ue
+      byte_plays ue = go (ltb (length out) (length gs)) refl ue
         where
-          go : (z : Bool) → ltb (length out) (length gs) ≡ z → turn full size moved out' ≡ cond z (turn true 0 w out) (turn false (length gs) (after_under layout.channels (samples_in m extents) p.version w took.tick) (over gs out))
-              → turn false size (fed took.arrival moved) out' ≡ turn_of (takes layout.samples layout.channels (samples_in m extents)) (fed p w) b out
-          go true z q = absurd (true≢false (sym (ap (λ (u : Turned ℤ Machine). u.full) q) ∙ f))
-          go false z q = ap (λ (u : Turned ℤ Machine). turn false u.size (fed took.arrival u.machine) u.out) q ∙ sym (byte_turn ∙ rw z)
+          go : (z : Bool) → ltb (length out) (length gs) ≡ z → turn false size w out' ≡ cond z (turn true 0 b.machine out) (turn false (length gs) (after_under m.layout.channels (samples_in (as_module m) m.extents) b.arrival.version b.machine t) (over gs out))
+              → turn false size (fed q w) out' ≡ turn_of (taking m) (state_of b) d out
+          go true z x = absurd (true≢false (sym (ap (λ (y : Turned ℤ Machine). y.full) x)))
+          go false z x = ap (λ (y : Turned ℤ Machine). turn false y.size (fed q y.machine) y.out) x ∙ sym (byte_turn ∙ rw z)
 
 -- ---- legality
-pub board_tested : (layout : Layout) (bytes : List ℕ) (s : Board) (extents : List Extent) (rs : List Command) (last : ℕ) (o a b c : Bool) → o ≡ true → length s.machine.voices ≡ width → length s.arrival.bytes ≡ kept_bytes → extents ≡ extents_of (lent layout bytes) → rs ≡ registers_of s.machine → last ≡ layout.samples → a ≡ legal_voices layout extents s.machine.voices → b ≡ legal_remainder s.machine → c ≡ legal_arrival last layout.channels rs s.arrival → (c ≡ true → taken s.arrival < 2 ^ 40)
-    → Tested (lent layout bytes) s (o && a && b && c)
-unfolding legal_board all all_from
-board_tested layout bytes s extents rs last o a b c k vs bs e f l x y z few = record { is = rw (k, x, y, z, e, f, l); few = λ t. few (second_of (o && a && b) c t); voices = vs; bytes = bs }
+module _ (m : ReadModule) (b : Board) (count : length b.machine.voices ≡ width) (long : length b.arrival.bytes ≡ kept_bytes) where
+  pub board_tested : (rs : List Command) (last c : ℕ) (v r a : Bool) → rs ≡ registers_of b.machine → last ≡ m.layout.samples → c ≡ m.layout.channels → v ≡ legal_voices m.layout m.extents b.machine.voices → r ≡ legal_remainder b.machine → a ≡ legal_arrival last c rs b.arrival → (a ≡ true → taken b.arrival < 2 ^ 40)
+      → Tested (as_module m) b (v && r && a)
+  unfolding legal_board all all_from
+  board_tested rs last c v r a l i k x y z few = record { is = rw (x, y, z, l, i, k, m.table); few = λ t. few (second_of (v && r) a t); voices = count; bytes = long }
 
--- ---- the verdict
-module _ (layout : Layout) (bytes : List ℕ) (s : Board) (v : Answer) (ve : v ≡ verdict (lent layout bytes)) where
-  abbrev its : Module
-  its = lent layout bytes
+-- refusal 14, or a legal board
+module _ (m : ReadModule) (b : Board) (l : Bool) (lt : Tested (as_module m) b l) where
+  tested : l ≡ true → Legal (as_module m) b
+  tested h = record { layout = m.legal; judged = m.judged; legal = sym lt.is ∙ h; few = lt.few h; voices = lt.voices; bytes = lt.bytes }
 
-  pub judged_module : (v.number ≡ 0 → ⊥) → Judged (lent layout bytes) s v
-  judged_module h = record { is = module_given refused (accepted 0) its _ v (λ q. h (ap (λ (a : Answer). a.number) ve ∙ q)) (ve ∙ verdict_answer its); accepted = λ e. absurd (h e) }
+  pub begun_held : l ≡ true → Held m b
+  begun_held h = sound_held m b (rw m.table (legal_sound m.layout m.file.now b (tested h)))
 
-  module _ (z : v.number ≡ 0) (l : Bool) (lt : Tested (lent layout bytes) s l) (r : Answer) where
-    le : l ≡ legal_board (lent layout bytes) s
-    le = lt.is
+  pub judged_legal : l ≡ true → Judged (as_module m) b (accepted 0)
+  judged_legal h =
+      record {
+        is = module_passed refused (accepted 0) (as_module m) _ (accepted 0) m.judged (line_passed refused (accepted 0) 14 0 _ [] (accepted 0) (ap not (sym lt.is ∙ h)) (no_line refused (accepted 0) (accepted 0) refl));
+        accepted = λ _. tested h;
+      }
 
-    zero : (verdict its).number ≡ 0
-    zero = accepted_by its v ve z
-
-    pub judged_legal : LegalLayout layout → l ≡ true → r ≡ accepted 0 → Judged (lent layout bytes) s r
-    judged_legal y h e =
-        record {
-          is = module_passed refused (accepted 0) its _ r zero (line_passed refused (accepted 0) 14 0 _ [] r (ap not (sym le ∙ h)) (no_line refused (accepted 0) r e));
-          accepted = λ _. record { layout = y; judged = zero; legal = sym le ∙ h; few = lt.few h; voices = lt.voices; bytes = lt.bytes };
-        }
-
-    pub judged_illegal : l ≡ false → r ≡ refused 14 0 → Judged (lent layout bytes) s r
-    judged_illegal h e =
-        record { is = module_passed refused (accepted 0) its _ r zero (line_given refused (accepted 0) 14 0 _ [] r (ap not (sym le ∙ h)) e); accepted = λ q. absurd (omega (arith, ap (λ (a : Answer). a.number) (sym e) ∙ q)) }
+  pub judged_illegal : l ≡ false → Judged (as_module m) b (refused 14 0)
+  judged_illegal h =
+      record { is = module_passed refused (accepted 0) (as_module m) _ (refused 14 0) m.judged (line_given refused (accepted 0) 14 0 _ [] (refused 14 0) (ap not (sym lt.is ∙ h)) refl); accepted = λ e. absurd (omega arith) }

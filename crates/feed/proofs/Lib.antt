@@ -1,4 +1,4 @@
-pub mod Chunks
 pub mod Laws
+pub mod Chunks
 pub mod Turns
 pub mod Calls

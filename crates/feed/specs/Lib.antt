@@ -7,3 +7,4 @@ pub mod Arriving
 pub mod Sound
 pub mod Judged
 pub mod Kept
+pub mod Boards
