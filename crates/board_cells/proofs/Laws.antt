@@ -1,11 +1,12 @@
 -- What is written behind what: the front, then voice after voice; and what a call leaves. Laws over plain variables.
 -- Assumes nothing.
-use Prim.Native.Nat.{ℕ, ◌+◌, ◌≤◌, ◌<◌}
+use Prim.Native.Nat.{ℕ, zero, suc, ◌+◌, ◌≤◌, ◌<◌}
 use mathlib.Core.Path.{◌≡◌, refl, ap, ◌∙◌}
 use mathlib.Core.Bool.{Bool, true, false}
 use mathlib.Core.List.{List, ◌++◌}
 use native.Mathlib.Omega.{arith}
-use lib.ListN.{length, take}
+use lib.ListN.{length, take, get_or}
+use Rattle.std.specs.Int.{to_le_bytes, w32}
 use lib.Seq.{sets, length-sets}
 use Rattle.laws.specs.Ranges.{each}
 use Rattle.laws.specs.Positions.{sets-append}
@@ -18,7 +19,7 @@ use Rattle.arrival.specs.Arrive.{kept_fault}
 use Rattle.feed.specs.declared.Board.{Board}
 use Rattle.feed.specs.declared.Reply.{Reply}
 use Rattle.cells.specs.Puts.{Written, take-sets, written_none, written_more, written_all}
-use Rattle.board_cells.specs.Cells.{word_place, number_place, voices_place, board_cell_count, voice_place, start_cells, word_cells, number_cells, front_cells, voice_cells_at, Fronted, board_cells, board_after}
+use Rattle.board_cells.specs.Cells.{word_place, number_place, voices_place, board_cell_count, voice_place, start_cells, word_cells, number_cells, front_cells, voice_cells_at, Fronted, board_cells, byte_of, board_after}
 
 -- ---- the front
 -- each run begins where the one before it ends, so that they are one
@@ -62,3 +63,12 @@ module _ (r : Reply) (cells : List ℕ) (k : Bool) (e : k ≡ kept_fault r.answe
   pub after_refused : k ≡ false → cells ≡ board_after r cells
   unfolding board_after
   after_refused t = rw (← e, t)
+
+-- ---- a cell's bytes
+pub byte_is : (cell k : ℕ) → k < 4 → get_or (to_le_bytes w32 cell) k 0 ≡ byte_of cell k
+unfolding byte_of
+byte_is cell zero h = omega arith
+byte_is cell (suc zero) h = omega arith
+byte_is cell (suc (suc zero)) h = omega arith
+byte_is cell (suc (suc (suc zero))) h = omega arith
+byte_is cell (suc (suc (suc (suc k)))) h = absurd (omega arith)

@@ -12,7 +12,6 @@ ghost use Rattle.board_cells.specs.Cells.{word_place, number_place, low_cell, hi
 
 use arrival::{Arrival, KEPT_BYTES};
 use cells::{VOICE_CELLS, put, put_voice, voice_of};
-use common::bytes::byte;
 use common::limits::WIDTH;
 use feed::{Board, Reply};
 use machine::Machine;
@@ -35,70 +34,64 @@ pub const BOARD_CELLS: usize = VOICES_PLACE + VOICE_CELLS * WIDTH;
 // The cells of the answer of a call that takes bytes.
 pub const FEED_CELLS: usize = 4;
 
-const CELL_SIZE: u64 = 4294967296;
-
-const GREATEST_CELL: usize = 4294967295;
+const CELL_SIZE: usize = 1 << 32;
 
 // ---- from a board
 
-fn low(n: u64) -> u32
+fn low(n: usize) -> u32
     ensures { result ≡ low_cell n }
 {
     (n % CELL_SIZE) as u32
 }
 
-fn high(n: u64) -> u32
+fn high(n: usize) -> u32
     ensures { result ≡ high_cell n }
 {
     (n / CELL_SIZE) as u32
 }
 
+#[tactic(auto, unfolding(crate::specs::Cells::kept_cell))]
 fn kept_cell(n: usize) -> u32
     ensures { result ≡ kept_cell n }
 {
-    if n < GREATEST_CELL {
-        return n as u32;
-    }
-    GREATEST_CELL as u32
+    u32::try_from(n).unwrap_or(u32::MAX)
 }
 
 // Four bytes, the first lowest.
-fn word_of(bytes: [u8; KEPT_BYTES], at: usize) -> u32
+fn word_of(bytes: &[u8; KEPT_BYTES], at: usize) -> u32
     requires { at + 4 ≤ kept_bytes }
-    ensures { result ≡ word_of bytes at }
+    ensures { result ≡ word_of bytes.now at }
 {
-    byte(&bytes, at)
-        + 256 * byte(&bytes, at + 1)
-        + 65536 * byte(&bytes, at + 2)
-        + 16777216 * byte(&bytes, at + 3)
+    u32::from_le_bytes([bytes[at], bytes[at + 1], bytes[at + 2], bytes[at + 3]])
 }
 
-fn words_of(bytes: [u8; KEPT_BYTES]) -> [u32; WORDS]
-    ensures { result ≡ word_cells bytes }
+// Arrays are filled by loops: `array::from_fn` got no proof that what its closure borrows stays, so `returns` did not close.
+fn words_of(bytes: &[u8; KEPT_BYTES]) -> [u32; WORDS]
+    ensures { result ≡ word_cells bytes.now }
 {
-    let mut words = [0u32; WORDS];
+    let mut words = [0; WORDS];
     for i in 0..WORDS {
         words[i] = word_of(bytes, 4 * i);
     }
     words
 }
 
-fn put_start(p: Arrival, cells: &mut [u32; BOARD_CELLS])
-    ensures { cells.new ≡ sets cells.old 0 (start_cells p) }
+fn put_start(p: &Arrival, cells: &mut [u32; BOARD_CELLS])
+    ensures { cells.new ≡ sets cells.old 0 (start_cells p.now) }
 {
     let run = [low(p.place), high(p.place), kept_cell(p.kept)];
     put(&run, 0, cells);
 }
 
-fn put_words(bytes: [u8; KEPT_BYTES], cells: &mut [u32; BOARD_CELLS])
-    ensures { cells.new ≡ sets cells.old word_place (word_cells bytes) }
+fn put_words(bytes: &[u8; KEPT_BYTES], cells: &mut [u32; BOARD_CELLS])
+    ensures { cells.new ≡ sets cells.old word_place (word_cells bytes.now) }
 {
     let run = words_of(bytes);
     put(&run, WORD_PLACE, cells);
 }
 
-fn put_numbers(p: Arrival, machine: Machine, cells: &mut [u32; BOARD_CELLS])
-    ensures { cells.new ≡ sets cells.old number_place (number_cells p machine) }
+fn put_numbers(p: &Arrival, machine: &Machine, cells: &mut [u32; BOARD_CELLS])
+    ensures { cells.new ≡ sets cells.old number_place (number_cells p.now machine.now) }
 {
     let run = [
         p.follow,
@@ -116,14 +109,13 @@ fn put_numbers(p: Arrival, machine: Machine, cells: &mut [u32; BOARD_CELLS])
 }
 
 // The cells before the voices'.
-fn front_of(arrival: Arrival, machine: Machine) -> [u32; BOARD_CELLS]
-    ensures { Fronted arrival machine result }
+fn front_of(board: &Board) -> [u32; BOARD_CELLS]
+    ensures { Fronted board.now.arrival board.now.machine result }
 {
-    let bytes = arrival.bytes;
     let mut cells = [0; BOARD_CELLS];
-    put_start(arrival, &mut cells);
-    put_words(bytes, &mut cells);
-    put_numbers(arrival, machine, &mut cells);
+    put_start(&board.arrival, &mut cells);
+    put_words(&board.arrival.bytes, &mut cells);
+    put_numbers(&board.arrival, &board.machine, &mut cells);
     cells
 }
 
@@ -131,10 +123,8 @@ fn front_of(arrival: Arrival, machine: Machine) -> [u32; BOARD_CELLS]
 pub fn cells_of(board: Board) -> [u32; BOARD_CELLS]
     ensures { result ≡ board_cells board }
 {
-    let arrival = board.arrival;
-    let machine = board.machine;
-    let voices = machine.voices;
-    let mut cells = front_of(arrival, machine);
+    let mut cells = front_of(&board);
+    let voices = board.machine.voices;
     for i in 0..WIDTH {
         put_voice(voices[i], VOICES_PLACE + VOICE_CELLS * i, &mut cells);
     }
@@ -143,26 +133,18 @@ pub fn cells_of(board: Board) -> [u32; BOARD_CELLS]
 
 // ---- from cells
 
-fn wide_of(low: u32, high: u32) -> u64
+fn wide_of(low: u32, high: u32) -> usize
     ensures { result ≡ wide_of low high }
 {
-    low as u64 + CELL_SIZE * high as u64
+    low as usize + CELL_SIZE * high as usize
 }
 
 // A byte of a cell, the first lowest.
 fn byte_of(cell: u32, k: usize) -> u8
+    requires { k < 4 }
     ensures { result ≡ byte_of cell k }
 {
-    if k == 0 {
-        return (cell % 256) as u8;
-    }
-    if k == 1 {
-        return (cell / 256 % 256) as u8;
-    }
-    if k == 2 {
-        return (cell / 65536 % 256) as u8;
-    }
-    (cell / 16777216 % 256) as u8
+    cell.to_le_bytes()[k]
 }
 
 fn byte_in(cells: &[u32; BOARD_CELLS], i: usize) -> u8
@@ -175,29 +157,20 @@ fn byte_in(cells: &[u32; BOARD_CELLS], i: usize) -> u8
 fn bytes_of(cells: &[u32; BOARD_CELLS]) -> [u8; KEPT_BYTES]
     ensures { result ≡ each (byte_in cells.now) kept_bytes }
 {
-    let mut bytes = [0u8; KEPT_BYTES];
+    let mut bytes = [0; KEPT_BYTES];
     for i in 0..KEPT_BYTES {
         bytes[i] = byte_in(cells, i);
     }
     bytes
 }
 
-fn size_of(cell: u32) -> usize
-    ensures { result ≡ cell }
-{
-    cell as usize
-}
-
 fn arrival_of(cells: &[u32; BOARD_CELLS]) -> Arrival
     ensures { result ≡ arrival_of cells.now }
 {
-    let place = wide_of(cells[0], cells[1]);
-    let fault = wide_of(cells[22], cells[23]);
     let bytes = bytes_of(cells);
-    let kept = size_of(cells[2]);
     Arrival {
-        place,
-        kept,
+        place: wide_of(cells[0], cells[1]),
+        kept: cells[2] as usize,
         bytes,
         follow: cells[16],
         version: cells[17],
@@ -205,7 +178,7 @@ fn arrival_of(cells: &[u32; BOARD_CELLS]) -> Arrival
         count: cells[19],
         records: cells[20],
         number: cells[21],
-        fault,
+        fault: wide_of(cells[22], cells[23]),
     }
 }
 
@@ -248,9 +221,7 @@ pub fn put_board(reply: Reply, cells: &mut [u32; BOARD_CELLS])
     ensures { cells.new ≡ board_after reply cells.old }
 {
     if arrival::is_kept_fault(reply.answer.number) {
-        let board = reply.board;
-        *cells = cells_of(board);
-        return;
+        *cells = cells_of(reply.board);
     }
 }
 

@@ -68,7 +68,11 @@ fn legal_remainder(machine: &Machine) -> bool
 fn fault_place(arrival: &Arrival) -> usize
     ensures { result ≡ fault_place arrival.now }
 {
-    if arrival.number == 0 { 0 } else { arrival.fault }
+    if arrival.number == 0 {
+        0
+    } else {
+        arrival.fault
+    }
 }
 
 impl Board {
@@ -79,7 +83,9 @@ impl Board {
         let voices = self.machine.voices;
         let voiced = legal_voices(source, voices);
         let rested = legal_remainder(&self.machine);
-        let arrived = self.arrival.is_legal(&scope(source), &registers(&self.machine));
+        let arrived = self
+            .arrival
+            .is_legal(&scope(source), &registers(&self.machine));
         voiced & rested & arrived
     }
 

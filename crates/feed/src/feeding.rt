@@ -61,22 +61,12 @@ impl<'a> Feeding<'a> {
     {
         let mut arrival = self.board.arrival;
         let version = arrival.version;
-        let step = arrival.step(
-            &scope(self.module),
-            &registers(&self.board.machine),
-            byte,
-        );
+        let step = arrival.step(&scope(self.module), &registers(&self.board.machine), byte);
         let Some(tick) = step else {
             self.board.arrival = arrival;
             return Some(0);
         };
-        let size = play(
-            self.module,
-            &mut self.board.machine,
-            tick,
-            version,
-            out,
-        )?;
+        let size = play(self.module, &mut self.board.machine, tick, version, out)?;
         self.board.arrival = arrival;
         Some(size)
     }

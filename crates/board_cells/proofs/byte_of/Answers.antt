@@ -1,21 +1,6 @@
--- The tests are those of the definition, in its order.
-use Rattle.laws.specs.Tests.{tests}
-use Rattle.board_cells.specs.Cells.{byte_of}
-use borrow.Author.Rules.{rules}
+-- The bytes of a cell, one by one.
+use Rattle.board_cells.proofs.Laws.{byte_is}
 use Rattle.board_cells.proofs.byte_of.Goals as goal
 
-pub returns-then-k-eq0 : goal.returns-then-k-eq0
-unfolding byte_of
-returns-then-k-eq0 c = search (tests, rules)
-
-pub returns-then-k-eq1 : goal.returns-then-k-eq1
-unfolding byte_of
-returns-then-k-eq1 c = search (tests, rules)
-
-pub returns-then-k-eq2 : goal.returns-then-k-eq2
-unfolding byte_of
-returns-then-k-eq2 c = search (tests, rules)
-
 pub returns : goal.returns
-unfolding byte_of
-returns c = search (tests, rules)
+returns c = rw c.to_le_bytes.ensures (byte_is c.args.cell c.args.k c.requires)

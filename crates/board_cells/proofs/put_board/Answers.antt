@@ -6,5 +6,5 @@ use Rattle.board_cells.proofs.put_board.Goals as goal
 pub returns-then-is_kept_fault : goal.returns-then-is_kept_fault
 returns-then-is_kept_fault c = search (after_kept, rules)
 
-pub returns : goal.returns
-returns c = search (after_refused, rules)
+pub returns-else-is_kept_fault : goal.returns-else-is_kept_fault
+returns-else-is_kept_fault c = search (after_refused, rules)
