@@ -52,8 +52,7 @@ pub(crate) fn scope(source: &Module) -> Scope
 fn legal_voices(source: &Module, voices: [Voice; WIDTH]) -> bool
     ensures { (result ≡ legal_voices source.now.layout source.now.extents voices) × (length voices ≡ width) }
 {
-    let extents = source.extents;
-    voice::legal::legal_voices(source.layout, extents, voices)
+    voice::legal::legal_for(source, &voices)
 }
 
 #[tactic(auto, unfolding(crate::specs::Feed::legal_remainder))]
