@@ -1,7 +1,7 @@
 -- A record at once, or a byte: laws in the form in which the code's tests and calls leave their facts.
 -- Assumes nothing.
 use Prim.Native.Nat.{ℕ, ◌+◌, ◌-◌, ◌≤◌, ◌<◌}
-use mathlib.Core.Path.{◌≡◌, refl, sym, ap, subst, ◌∙◌}
+use mathlib.Core.Path.{◌≡◌, refl, sym, ap, ◌∙◌}
 use mathlib.Core.Bool.{Bool, true, false, cond, true≢false}
 use mathlib.Core.List.{List, [], ◌∷◌}
 use native.Mathlib.Omega.{arith}
@@ -25,10 +25,10 @@ use Rattle.decoder.specs.declared.reading.Record.{Record}
 use Rattle.arrival.specs.declared.Arrival.{Arrival}
 use Rattle.arrival.specs.Arrive.{played, end_shows}
 use Rattle.arrival.specs.Ahead.{Found, Lies, laid, awaited_plays}
-use Rattle.arrival.specs.Feed.{Fed, fed}
+use Rattle.arrival.specs.Feed.{fed}
 use Rattle.feed.specs.declared.Board.{Board}
 use Rattle.feed.specs.Boards.{state_of, taking, Held, held_sound}
-use Rattle.feed.specs.Feed.{registers_of, frames_under, after_under, under}
+use Rattle.feed.specs.Feed.{registers_of, under}
 use Rattle.feed.specs.Sound.{tick_low, tick_high, tick_ready}
 use Rattle.feed.specs.Several.{several, several_one}
 use Rattle.feed.specs.Takings.{Whole, Taken}

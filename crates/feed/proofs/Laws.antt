@@ -7,22 +7,21 @@ use mathlib.Core.List.{List, [], ◌∷◌}
 use native.Mathlib.Omega.{arith}
 use lib.Dec.{eqb, ltb}
 use lib.IntN.{ℤ}
-use lib.ListN.{length, get_or}
-use borrow.Author.Tests.{eq-eqb, ne_eqb, eqb-true, eqb-false, le-ltb}
+use lib.ListN.{length}
+use borrow.Author.Tests.{ne_eqb, eqb-true, eqb-false, le-ltb}
 use Rattle.std.specs.Prelude.{Option, None, Some}
 use Rattle.laws.specs.Ranges.{all, all_from}
 use Rattle.laws.specs.Every.{second_of}
 use Rattle.common.specs.Limits.{width, greatest_tempo}
 use Rattle.common.specs.Answers.{refused, accepted}
 use Rattle.common.specs.AnswerLaws.{no_line, line_given, line_passed}
-use Rattle.common.specs.declared.Answer.{Answer}
 use Rattle.ticks.specs.declared.Command.{Command}
 use Rattle.ticks.specs.declared.Tick.{Tick}
 use Rattle.ticks.specs.Play.{Mechanism, over, after_all}
-use Rattle.reader.specs.File.{Module, lent}
+use Rattle.reader.specs.File.{Module}
 use Rattle.reader.specs.Modules.{as_module}
 use Rattle.reader.specs.Accept.{module_passed}
-use Rattle.reader.specs.Samples.{Sample, extents_of}
+use Rattle.reader.specs.Samples.{Sample}
 use Rattle.reader.specs.declared.Extent.{Extent}
 use Rattle.reader.specs.declared.module.Module.{Module as ReadModule}
 use Rattle.voice.specs.LegalFacts.{Ready}

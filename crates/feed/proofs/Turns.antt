@@ -14,7 +14,7 @@ use mir.Val.{Fits}
 use borrow.Rule.Slice.PartMut.{put_mid}
 use Rattle.laws.specs.Lent.{tail_long}
 use Rattle.common.specs.Answers.{Outcome, outcome}
-use Rattle.ticks.specs.Play.{Mechanism, after_all}
+use Rattle.ticks.specs.Play.{after_all}
 use Rattle.ticks.specs.Playing.{Playing, Played, playing_none, playing_all}
 use Rattle.reader.specs.Modules.{as_module}
 use Rattle.reader.specs.declared.module.Module.{Module as ReadModule}
@@ -22,10 +22,9 @@ use Rattle.voice.specs.Modules.{samples_in}
 use Rattle.machine.specs.declared.Machine.{Machine}
 use Rattle.machine.specs.Turn.{turn}
 use Rattle.machine.specs.Turns.{turn_machine, stops_same, playing_stops}
-use Rattle.arrival.specs.declared.Arrival.{Arrival}
 use Rattle.arrival.specs.Arrive.{taken}
 use Rattle.arrival.specs.Comes.{fault_stays}
-use Rattle.arrival.specs.Feed.{Fed, fed}
+use Rattle.arrival.specs.Feed.{Fed}
 use Rattle.feed.specs.declared.Board.{Board}
 use Rattle.feed.specs.declared.Reply.{Reply}
 use Rattle.feed.specs.Boards.{state_of, taking}

@@ -1,6 +1,6 @@
 -- A board beside a module that was read, as the definitions take them; and what the calls and their parts answer.
 -- Assumes nothing.
-use Rattle.std.specs.Prelude.{ℕ, ◌+◌, ◌<◌, ◌≡◌, length, Bool, true, false, List, ℤ, Option, None, Some, Result, Ok, Err}
+use Rattle.std.specs.Prelude.{ℕ, ◌+◌, ◌<◌, ◌≡◌, length, true, false, List, ℤ, Option, None, Some, Result, Ok, Err}
 use Rattle.common.specs.Limits.{width}
 use Rattle.common.specs.Answers.{accepted}
 use Rattle.common.specs.Refusals.{number_of, refusal}

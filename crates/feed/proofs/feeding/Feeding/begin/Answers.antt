@@ -1,6 +1,5 @@
 -- The board was tested.
 use borrow.Author.Rules.{rules}
-use borrow.Author.Tests.{not-true, not-false}
 use Rattle.feed.proofs.Laws.{begun_held, judged_legal, judged_illegal}
 use Rattle.feed.proofs.feeding.Feeding.begin.Goals as goal
 
