@@ -4,7 +4,7 @@ ghost use Rattle.runs.specs.Cells.{stride, number_at, Narrow, sum_at, Roomy, Hol
 
 use crate::FRAME_NUMBERS;
 
-// The numbers of one scratch, added to the first of another. (Of what a zip of `iter_mut` writes no proof knows more than the length.)
+// The numbers of one scratch, added to the first of another. (By index: of what a `zip` with `iter_mut` wrote a proof knows the length alone.)
 pub fn add_to(to: &mut [i16], from: &[i16])
     requires fits { length to.old ≤ length from.now }
     requires room { Roomy from.now to.old (length to.old) }
@@ -15,7 +15,7 @@ pub fn add_to(to: &mut [i16], from: &[i16])
     }
 }
 
-// Frames of two scratches: the numbers of one are left, and those of another right.
+// Frames of two scratches: the numbers of one are left, and those of another right. (By index: of what `chunks_exact_mut` lent, the same.)
 pub fn interleave(left: &[i16], right: &[i16], out: &mut [i16])
     requires { (length left.now ≤ length right.now) × (stride * length left.now ≤ length out.old) }
     ensures { Woven (number_at left.now) (number_at right.now) 0 (length left.now) out.old out.new }

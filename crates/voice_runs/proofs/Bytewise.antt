@@ -1,17 +1,16 @@
 -- A line's numbers, byte by byte: which frames a byte has, and the loop over the bytes. Assumes nothing.
-use mathlib.Core.Path.{◌≡◌, refl, sym, ap, ◌∙◌}
+use mathlib.Core.Path.{◌≡◌, sym, ap, ◌∙◌}
 use mathlib.Core.List.{List}
-use Prim.Native.Nat.{ℕ, suc, ◌+◌, ◌-◌, ◌*◌, ◌/◌, ◌≤◌, ◌<◌}
+use Prim.Native.Nat.{ℕ, ◌+◌, ◌-◌, ◌*◌, ◌/◌, ◌≤◌, ◌<◌}
 use native.Mathlib.Nat.{zero-add, zero-mul, suc-mul, add-mul, mul-le-mul, mul-le-mul_right, lt_of_mul-lt-mul_right}
 use native.Mathlib.Omega.{arith}
-use lib.ListN.{length, take, get_or}
-use Rattle.std.proofs.Common.{length-take-le}
+use lib.ListN.{length, get_or}
 use lib.IntN.{ℤ}
 use borrow.Rule.Slice.PartMut.{put_mid, mid_of}
 use mir.Syntax.{w64}
 use mir.Val.{Fits}
-use Rattle.runs.specs.Lines.{parts, byte_of, Line}
-use Rattle.runs.specs.Written.{Written, written_none, written_as, written_part, written_more}
+use Rattle.runs.specs.Lines.{parts, byte_of}
+use Rattle.runs.specs.Written.{Written, written_none, written_part, written_more}
 use Rattle.runs.specs.Inverses.{unit, dividends, most_frames, lasting, lasting_enough, lasting_most, Inverse, product_fits, quotient_low, quotient_high}
 use Rattle.voice_runs.specs.Runs.{product_of, weighed_at, piece}
 
@@ -46,38 +45,24 @@ module _ (from growth i m start next : ℕ) (v : Inverse growth i) (f : from < p
 pub record Bytewise (bytes : List ℕ) (weight from growth inverse : ℕ) (old cells : List ℤ) (due cell m : ℕ) : Type 0 where
   pub next : due ≡ reach from growth m * inverse
   pub here : In from growth m cell
-  pub first : cell * growth < parts * m - from + growth
   pub written : Written (weighed_at weight bytes from growth) 0 cell old cells
 
--- the last byte that n frames reach
-abbrev pub reached_of : ℕ → ℕ → ℕ → ℕ
-reached_of from growth n = (from + (n - 1) * growth) / parts
-
-pub reached_long : (bytes : List ℕ) (from growth n : ℕ) → Line bytes from growth n → 0 < n → length (take (reached_of from growth n + 1) bytes) ≡ reached_of from growth n + 1
-reached_long bytes from growth n l z = length-take-le _ bytes (omega (arith, l.inside (n - 1) (omega arith)))
-
-module _ (bytes : List ℕ) (weight from growth inverse count : ℕ) (old : List ℤ) (v : Inverse growth inverse) (f : from < parts) (some : 0 < count) where
+module _ (bytes : List ℕ) (weight from growth inverse count : ℕ) (old : List ℤ) (v : Inverse growth inverse) (f : from < parts) where
   pub bytewise_none : Bytewise bytes weight from growth inverse old old ((parts - from + growth - 1) * inverse) 0 0
   bytewise_none =
       record {
         next = ap (λ x. x * inverse) (let e : parts - from + growth - 1 ≡ reach from growth 0 = omega arith in e);
         here = (omega (arith, zero-mul growth), omega (arith, zero-mul growth));
-        first = omega (arith, zero-mul growth, v.brief);
         written = written_none _ 0 old;
       }
 
   module _ (short : count ≤ piece) (cells : List ℤ) (due cell m : ℕ) (b : Bytewise bytes weight from growth inverse old cells due cell m) where
-    module _ (h : m ≤ reached_of from growth count) where
-      pub cell_before : cell < count
-      cell_before =
-          let e : suc (count - 1) ≡ count = omega arith in
-          lt_of_mul-lt-mul_right growth (let l : cell * growth < count * growth = omega (arith, b.first, suc-mul (count - 1) growth, ap (λ n. n * growth) e) in l)
-
+    module _ (h : cell < count) where
       reach_low : reach from growth m + parts < dividends
       reach_low =
-          let l : count - 1 ≤ piece = omega arith in
+          let l : cell ≤ piece = omega arith in
           let g : growth ≤ parts = omega (arith, v.slow) in
-          omega (arith, mul-le-mul l g, v.slow)
+          omega (arith, mul-le-mul l g, b.here, v.slow)
 
       -- so many frames on the next byte begins
       next_cell : due / unit ≡ reach from growth m * inverse / unit
@@ -97,21 +82,18 @@ module _ (bytes : List ℕ) (weight from growth inverse count : ℕ) (old : List
       pub next_fits : Fits w64 (due + parts * inverse)
       next_fits = rw due_next (product_fits growth inverse (reach from growth (m + 1)) v (omega (arith, reach_low)))
 
+      pub next_less : count - due / unit < count - cell
+      next_less = omega (arith, next_later from growth inverse m cell (due / unit) v f b.here low high)
+
       pub bytewise_more : (r : ℤ) (part : List ℤ) → r ≡ product_of weight (get_or bytes m 0) → count + most_frames ≤ length cells → Written (λ _. r) 0 (lasting growth) (mid_of cell (length cells - cell) cells) part → Bytewise bytes weight from growth inverse old (put_mid cell (length cells - cell) cells part) (due + parts * inverse) (due / unit) (m + 1)
       unfolding weighed_at
       bytewise_more r part e room w =
           record {
             next = due_next;
             here = next_in from growth inverse m cell (due / unit) v f b.here low high;
-            first = omega (arith, low);
             written =
                 written_more _ 0 cell old cells b.written (λ _. r) (lasting growth) (due / unit) _
-                (rw (zero-add cell) (written_part _ cell (length cells - cell) (lasting growth) cells part (omega (arith, cell_before)) (omega (arith, cell_before, lasting_most growth)) w))
+                (rw (zero-add cell) (written_part _ cell (length cells - cell) (lasting growth) cells part (omega arith) (omega (arith, lasting_most growth)) w))
                 (next_near from growth inverse m cell (due / unit) v f b.here low high)
                 (λ j l k. e ∙ ap (λ i. product_of weight (get_or bytes i 0)) (sym (byte_same from growth inverse m cell (due / unit) v f b.here low high j l k)));
           }
-
-    pub bytewise_end : reached_of from growth count < m → Written (weighed_at weight bytes from growth) 0 count old cells
-    bytewise_end h =
-        let l : count - 1 < cell = lt_of_mul-lt-mul_right growth (let k : (count - 1) * growth < cell * growth = omega (arith, b.here) in k) in
-        written_as _ _ 0 cell count old cells b.written (omega arith) (λ j _. refl)

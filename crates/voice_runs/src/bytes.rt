@@ -34,7 +34,7 @@ pub fn fill_line(
 )
     requires line { Line bytes.now from pace.growth count }
     requires pace { Inverse pace.growth pace.inverse }
-    requires short { (weight ≤ 128) × (from < parts) × (0 < count) × (count ≤ piece) }
+    requires short { (weight ≤ 128) × (from < parts) × (count ≤ piece) }
     requires room { count + most_frames ≤ length cells.old }
     ensures { Written (weighed_at weight bytes.now from pace.growth) 0 count cells.old cells.new }
 {
@@ -42,10 +42,13 @@ pub fn fill_line(
     let step = PARTS * pace.inverse;
     let mut due = (PARTS - from + growth - 1) * pace.inverse;
     let mut cell = 0;
-    let reached = (from + (count - 1) * growth) / PARTS;
-    for byte in &bytes[..reached + 1] {
-        fill_byte(weighed(*byte, weight), growth, &mut cells[cell..]);
+    // (A `for` over the bytes takes longer, measured alone: half as long again at slow voices where it breaks off, an eighth at the shortest runs where
+    // it goes over just the bytes that the line reads.)
+    let mut m = 0;
+    while cell < count {
+        fill_byte(weighed(bytes[m], weight), growth, &mut cells[cell..]);
         cell = due / UNIT;
         due += step;
+        m += 1;
     }
 }

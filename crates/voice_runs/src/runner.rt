@@ -87,6 +87,7 @@ impl Runner {
     {
         let weight = u32::from(self.voice.volume) * times;
         let mut written = 0;
+        // (Runs differ in length, so that these loops are no `for`.)
         while written < frames {
             let count = self.count(frames - written);
             self.write(bytes, weight, count, &mut cells[written..]);
