@@ -1,6 +1,6 @@
 // Scratch cells, one number a frame: one scratch added to another, and two woven into frames.
-ghost use Rattle.std.specs.Prelude.{◌≡◌, ◌+◌, ◌*◌, ◌≤◌, length};
-ghost use Rattle.runs.specs.Cells.{stride, number_at, Narrow, sum_at, Roomy, Holds, Woven};
+ghost use Rattle.std.specs.Prelude.{◌*◌, ◌≤◌, length};
+ghost use Rattle.runs.specs.Cells.{stride, number_at, sum_at, Roomy, Holds, Woven};
 
 use crate::FRAME_NUMBERS;
 
@@ -24,28 +24,4 @@ pub fn interleave(left: &[i16], right: &[i16], out: &mut [i16])
         out[FRAME_NUMBERS * k] = *x;
         out[FRAME_NUMBERS * k + 1] = right[k];
     }
-}
-
-// The first cells of one, added to those of another.
-#[tactic(auto, unfolding(crate::specs::Cells::sum_at))]
-pub fn add(from: &[i16], count: usize, to: &mut [i16])
-    requires fits { (count ≤ length from.now) × (count ≤ length to.old) }
-    requires room { Roomy from.now to.old count }
-    ensures sums { Holds (sum_at to.old from.now) count to.new }
-{
-    add_to(&mut to[..count], from);
-}
-
-// Frames from one on: the first cells of one are left, and those of another right.
-pub fn weave(left: &[i16], right: &[i16], count: usize, at: usize, out: &mut [i16])
-    requires whole { (count ≤ length left.now) × (count ≤ length right.now) }
-    requires narrow { Narrow left.now count × Narrow right.now count }
-    requires fits { stride * (at + count) ≤ length out.old }
-    ensures { Woven (number_at left.now) (number_at right.now) at count out.old out.new }
-{
-    interleave(
-        &left[..count],
-        &right[..count],
-        &mut out[FRAME_NUMBERS * at..FRAME_NUMBERS * (at + count)],
-    );
 }
