@@ -24,13 +24,6 @@ impl From<Cause> for usize {
     }
 }
 
-// A cause's number.
-pub fn cause_number(cause: Cause) -> usize
-    ensures { result ≡ cause_number cause }
-{
-    usize::from(cause)
-}
-
 // Whether the byte at an index reads 0.
 #[tactic(auto, unfolding(crate::specs::Quiet::reads_zero))]
 fn reads_zero(bytes: &[u8], index: usize) -> bool
