@@ -49,7 +49,7 @@ fn named(
     requires by_index { (i : ℕ) → i < channels → (get_or commands.now i nothing).sample < sample_numbers }
     ensures { Filled (mark_at extents.now commands.now) no_extent width result channels }
 {
-    let mut marks = [extents[0]; WIDTH];
+    let mut marks = [Extent::default(); WIDTH];
     for i in 0..channels {
         marks[i] = extents[usize::from(commands[i].sample)];
     }

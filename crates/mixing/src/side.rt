@@ -46,6 +46,7 @@ impl Side {
 }
 
 // What voices are mixed from: for each channel its sample's extent in the file and its pace; and what a side's sums are multiplied by.
+// The arrays lie beside that of the voices, by channel, as Sounding and Pacing (specs/Sides.antt) have them, with room for all channels: memory is fixed.
 #[derive(Drop)]
 pub struct Mix<'a> {
     pub file: &'a [u8],
