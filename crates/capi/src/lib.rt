@@ -168,7 +168,7 @@ pub extern "C" fn lampthistle_translate(
     ensures answered { answer.new ≡ answer_cells (translate_of file.now ticks room.old).reply }
     ensures written { room.new ≡ (translate_of file.now ticks room.old).out }
 {
-    put_answer(translator::translate(file, ticks, room), answer);
+    put_answer(translator::translate(file, ticks, room).into(), answer);
 }
 
 // Plays a stream with a module's samples.

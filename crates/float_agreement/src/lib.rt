@@ -41,7 +41,7 @@ pub fn play_both_floats(
         → length (stream_of (module_of file.now) ticks) ≤ length room.old
         → FloatAgreement file.now ticks sides panel_pair board_pair result room.old room.new panel.old panel.new board.old board.new }
 {
-    let translated = translator::translate(file, ticks, room);
+    let translated = Answer::from(translator::translate(file, ticks, room));
     let played = float_player::play_floats(file, State::default(), ticks, sides, panel_pair, panel);
     let len = translated.count;
     let streamed = float_board::play_stream_floats(&room[..len], file, sides, board_pair, board);

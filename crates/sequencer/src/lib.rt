@@ -209,18 +209,7 @@ impl Song {
     }
 }
 
-pub fn course_from(position: u32) -> Course
-    ensures { result ≡ course_from position }
-{
-    Course::from_position(position)
-}
-
-pub fn fresh() -> Song
-    ensures { result ≡ fresh_song }
-{
-    Song::default()
-}
-
+// The same of a module that is lent in parts.
 pub fn tick(layout: Layout, file: &[u8], song: Song, sounding: [u8; WIDTH]) -> Worked
     requires layout { LegalLayout layout }
     requires accepted { (verdict (lent layout file.now)).number ≡ 0 }

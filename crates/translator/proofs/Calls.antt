@@ -1,7 +1,7 @@
 -- Laws of the call: the stream by what its writing leaves, and what the call answers by its tests.
 -- Assumes nothing.
 use Prim.Native.Nat.{ℕ, ◌+◌, ◌-◌, ◌*◌, ◌≤◌, ◌<◌, ◌^◌}
-use mathlib.Core.Path.{◌≡◌, sym, ap, ◌∙◌}
+use mathlib.Core.Path.{◌≡◌, refl, sym, ap, ◌∙◌}
 use mathlib.Core.List.{List, []}
 use native.Mathlib.Nat.{mul-le-mul_right}
 use native.Mathlib.Omega.{arith}
@@ -11,15 +11,18 @@ use mir.Val.{Fits}
 use borrow.Author.Tests.{lt-ltb, le-ltb}
 use borrow.Rule.Slice.PartMut.{put_mid}
 use Rattle.laws.specs.Lent.{tail_long}
-use Rattle.common.specs.Answers.{outcome, refused, accepted}
+use Rattle.common.specs.Answers.{outcome, accepted}
 use Rattle.common.specs.AnswerLaws.{line_given, line_passed}
 use Rattle.common.specs.Limits.{width}
-use Rattle.common.specs.declared.Answer.{Answer}
+use Rattle.common.specs.Refusals.{refusal}
+use Rattle.common.specs.declared.refusals.Refusal.{Refusal}
+use Rattle.common.specs.declared.refusals.Rule.TheVariants.{TickCount, StreamRoom}
 use Rattle.ticks.specs.Play.{over}
 use Rattle.reader.specs.declared.Layout.{Layout}
-use Rattle.reader.specs.File.{Module, lent, layout_of, module_of, channel_count}
-use Rattle.reader.specs.Judge.{verdict}
-use Rattle.reader.specs.Accept.{accepted_by, verdict_answer, module_given, module_passed}
+use Rattle.reader.specs.File.{Module, lent, module_of, channel_count}
+use Rattle.reader.specs.Judge.{judge_of}
+use Rattle.reader.specs.Modules.{as_module, module_read, read_refused, read_passed}
+use Rattle.reader.specs.declared.module.Module.{Module as ReadModule}
 use Rattle.sequencer.specs.Songs.{fresh_song, fresh_sounding}
 use Rattle.sequencer.specs.RunLaws.{length-ticks}
 use Rattle.records.specs.Format.{version_place, records_place, head_bytes, body_bytes, version, shift, at_first, stream_header, encode_after}
@@ -82,40 +85,36 @@ pub asked_stream : (layout : Layout) (bytes : List ℕ) (n room len : ℕ) → l
 asked_stream layout bytes n room len e = record { short = λ h. e; enough = λ h. rw (← e) h }
 
 -- ---- what the call answers, by its tests
-pub translate_fits : (layout : Layout) (bytes : List ℕ) (n len : ℕ) (room : List ℕ) → Asked (lent layout bytes) n (length room) len → len ≤ length room → length (stream_of (lent layout bytes) n) ≤ length room
-translate_fits layout bytes n len room l h = l.enough h
-
-module _ (layout : Layout) (bytes : List ℕ) (le : layout ≡ layout_of bytes) (v : Answer) (j : v ≡ verdict (lent layout bytes)) (n : ℕ) (room : List ℕ) where
-  here : v ≡ verdict (module_of bytes)
-  here = rw le at j
-
+module _ (bytes : List ℕ) (n : ℕ) (room : List ℕ) where
   -- 1 to 9
-  pub translate_refused : (v.number ≡ 0 → ⊥) → outcome v room ≡ translate_of bytes n room
+  pub translate_refused : (e : Refusal) → judge_of bytes ≡ refusal e → outcome (refusal e) room ≡ translate_of bytes n room
   unfolding translate_of
-  translate_refused h =
-      module_given _ _ (module_of bytes) _ (outcome v room) (λ q. h (ap (λ (a : Answer). a.number) here ∙ q)) (ap (λ (a : Answer). outcome a room) (here ∙ verdict_answer (module_of bytes)))
+  translate_refused e j = read_refused _ _ bytes _ (outcome (refusal e) room) e j refl
 
-  module _ (z : v.number ≡ 0) (r : Answer) where
-    zero : (verdict (module_of bytes)).number ≡ 0
-    zero = accepted_by (module_of bytes) v here z
-
+  module _ (m : ReadModule) (q : m.file.now ≡ bytes) where
     -- 11
-    pub translate_many : most_ticks < n → r ≡ refused 11 0 → outcome r room ≡ translate_of bytes n room
+    pub translate_many : (e : Refusal) → most_ticks < n → e ≡ record { rule = TickCount; place = 0 } → outcome (refusal e) room ≡ translate_of bytes n room
     unfolding translate_of
-    translate_many h e = module_passed _ _ (module_of bytes) _ (outcome r room) zero (line_given _ _ 11 0 _ _ (outcome r room) (lt-ltb most_ticks n h) (rw e))
+    translate_many e h k = rw k (read_passed _ _ bytes _ _ m q (line_given _ _ 11 0 _ _ _ (lt-ltb most_ticks n h) refl))
 
-    module _ (few : n ≤ most_ticks) (len : ℕ) (l : Asked (lent layout bytes) n (length room) len) where
+    module _ (few : n ≤ most_ticks) (len : ℕ) (l : Asked (as_module m) n (length room) len) where
       -- 12
-      pub translate_short : length room < len → r ≡ refused 12 len → outcome r room ≡ translate_of bytes n room
+      pub translate_short : (e : Refusal) → length room < len → e ≡ record { rule = StreamRoom; place = len } → outcome (refusal e) room ≡ translate_of bytes n room
       unfolding translate_of
-      translate_short h e =
-          let s : len ≡ length (stream_of (module_of bytes) n) = rw le at (l.short h) in
-          module_passed _ _ (module_of bytes) _ (outcome r room) zero
-          (line_passed _ _ 11 0 _ _ (outcome r room) (le-ltb most_ticks n few)
-          (line_given _ _ 12 _ _ [] (outcome r room) (lt-ltb (length room) (length (stream_of (module_of bytes) n)) (rw s at h)) (rw (e, s))))
+      translate_short e h k =
+          let s : len ≡ length (stream_of (module_of bytes) n) = l.short h ∙ ap (λ (k : Module). length (stream_of k n)) (module_read m bytes q) in
+          rw (k, s)
+          (read_passed _ _ bytes _ _ m q
+          (line_passed _ _ 11 0 _ _ _ (le-ltb most_ticks n few)
+          (line_given _ _ 12 _ _ [] _ (lt-ltb (length room) (length (stream_of (module_of bytes) n)) (rw s at h)) refl)))
 
-      pub translate_all : len ≤ length room → (k : ℕ) (room' : List ℕ) → outcome (accepted k) room' ≡ written (lent layout bytes) n room → r ≡ accepted k → outcome r room' ≡ translate_of bytes n room
-      translate_all h k room' o e =
-          ap (λ (a : Answer). outcome a room') e ∙ rw le at o ∙ sym (translated bytes n room zero few (rw le at (translate_fits layout bytes n len room l h)))
+      pub translate_fits : len ≤ length room → length (stream_of (as_module m) n) ≤ length room
+      translate_fits h = l.enough h
 
-pub ruleset call_laws = (accepted_by, translate_refused, translate_many, translate_short, translate_fits, translate_all)
+      pub translate_all : len ≤ length room → (k : ℕ) (room' : List ℕ) → outcome (accepted k) room' ≡ written (as_module m) n room → outcome (accepted k) room' ≡ translate_of bytes n room
+      translate_all h k room' o =
+          let e = module_read m bytes q in
+          let f : length (stream_of (module_of bytes) n) ≤ length room = omega (arith, translate_fits h, ap (λ (k : Module). length (stream_of k n)) e) in
+          o ∙ ap (λ (k : Module). written k n room) e ∙ sym (translated bytes n room (rw (← e) m.judged) few f)
+
+pub ruleset call_laws = (translate_refused, translate_many, translate_short, translate_fits, translate_all)

@@ -3,17 +3,28 @@
 -- Assumes nothing.
 use Rattle.agreement.specs.Parts.{part_inside, part_length}
 use Rattle.float_agreement.proofs.Laws.{called, agreed}
+use Rattle.common.specs.Answers.{outcome}
+use Rattle.translator.specs.Translate.{translate_of}
+use Rattle.std.proofs.Common.{◌≡◌}
 use borrow.Author.Rules.{rules}
 use Rattle.float_agreement.proofs.play_both_floats.Goals as goal
 
 pub slice_bounds-play_stream_floats-end : goal.slice_bounds-play_stream_floats-end
-slice_bounds-play_stream_floats-end c = search (part_inside, rules)
+slice_bounds-play_stream_floats-end c =
+    let h : outcome c.from-translated.result c.translate.new.room ≡ translate_of c.args.file.now c.args.ticks c.args.room.now = rw c.from-translated.ensures c.translate.ensures in
+    search (part_inside, h, rules)
 
 pub slice_bounds-play_stream_floats-end-2 : goal.slice_bounds-play_stream_floats-end-2
-slice_bounds-play_stream_floats-end-2 c = search (part_length, part_inside, rules)
+slice_bounds-play_stream_floats-end-2 c =
+    let h : outcome c.from-translated.result c.translate.new.room ≡ translate_of c.args.file.now c.args.ticks c.args.room.now = rw c.from-translated.ensures c.translate.ensures in
+    search (part_length, part_inside, h, rules)
 
 pub returns-clause-calls : goal.returns-clause-calls
-returns-clause-calls c = search (called, rules)
+returns-clause-calls c =
+    let h : outcome c.from-translated.result c.translate.new.room ≡ translate_of c.args.file.now c.args.ticks c.args.room.now = rw c.from-translated.ensures c.translate.ensures in
+    search (called, h, rules)
 
 pub returns-clause-agrees : goal.returns-clause-agrees
-returns-clause-agrees c = λ v a few l. agreed _ _ _ _ _ _ _ _ _ _ _ _ _ _ _ c.translate-translated.ensures c.default.ensures c.play_floats-played.ensures c.play_stream_floats-streamed.ensures (λ i. (c.shared_slice_known-1.given i).fits) v a few l
+returns-clause-agrees c =
+    let h : outcome c.from-translated.result c.translate.new.room ≡ translate_of c.args.file.now c.args.ticks c.args.room.now = rw c.from-translated.ensures c.translate.ensures in
+    λ v a few l. agreed _ _ _ _ _ _ _ _ _ _ _ _ _ _ _ h c.default.ensures c.play_floats-played.ensures c.play_stream_floats-streamed.ensures (λ i. (c.shared_slice_known-1.given i).fits) v a few l

@@ -3,20 +3,14 @@ use Rattle.translator.proofs.Calls.{call_laws}
 use borrow.Author.Rules.{rules}
 use Rattle.translator.proofs.translate.Goals as goal
 
-pub returns-then-judged-ne0 : goal.returns-then-judged-ne0
-returns-then-judged-ne0 c = search (call_laws, rules)
+pub returns-in_err-m : goal.returns-in_err-m
+returns-in_err-m c = search (c.in_err-m.ensures.refused, call_laws, rules)
 
 pub returns-then-ticks-gt-MOST_TICKS : goal.returns-then-ticks-gt-MOST_TICKS
-returns-then-ticks-gt-MOST_TICKS c = search (call_laws, rules)
-
-pub asked_len-len-requires : goal.asked_len-len-requires
-asked_len-len-requires c = search (call_laws, rules)
+returns-then-ticks-gt-MOST_TICKS c = search (c.in_ok-m.ensures.accepted, call_laws, rules)
 
 pub returns-then-room-len : goal.returns-then-room-len
-returns-then-room-len c = search (call_laws, rules)
-
-pub write_stream-requires : goal.write_stream-requires
-write_stream-requires c = search (call_laws, rules)
+returns-then-room-len c = search (c.in_ok-m.ensures.accepted, call_laws, rules)
 
 pub returns : goal.returns
-returns c = search (call_laws, rules)
+returns c = search (c.in_ok-m.ensures.accepted, call_laws, rules)

@@ -1,9 +1,6 @@
--- The records that are counted, followed by those that are left, are all; each tick keeps the song legal.
-use Rattle.translator.proofs.Passing.{Pass}
+-- The records that are counted, followed by those that are left, are all.
+use Rattle.translator.proofs.Passing.{Passing}
 use Rattle.translator.proofs.passes.stream_len.Given as goal
 
-abbrev pub invariant-loop-left : goal.invariant-loop-left
-invariant-loop-left l = Pass l.layout l.file l.ticks l.song l.registers l.len l.left
-
-abbrev pub decreases-loop-left : goal.decreases-loop-left
-decreases-loop-left l = l.left
+abbrev pub invariant-loop-i : goal.invariant-loop-i
+invariant-loop-i l = Passing l.m l.fn.ticks l.pass l.len l.i

@@ -2,8 +2,5 @@
 use Rattle.translator.proofs.Passing.{Writing}
 use Rattle.translator.proofs.passes.write_records.Given as goal
 
-abbrev pub invariant-loop-left : goal.invariant-loop-left
-invariant-loop-left l = Writing l.layout l.file l.ticks l.initial.room l.room l.song l.registers l.len l.left
-
-abbrev pub decreases-loop-left : goal.decreases-loop-left
-decreases-loop-left l = l.left
+abbrev pub invariant-loop-i : goal.invariant-loop-i
+invariant-loop-i l = Writing l.m l.fn.ticks l.initial.room l.room l.pass l.len l.i
