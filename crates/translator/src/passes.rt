@@ -52,6 +52,7 @@ pub fn asked_len(m: &Module, ticks: u32, room: usize) -> usize
 }
 
 // Writes the records of so many ticks at the front of the room, and returns their length.
+// The loop is stream_len's with a write in place of a count: a proof would know nothing of a room that a closure writes.
 fn write_records(m: &Module, ticks: u32, room: &mut [u8]) -> usize
     requires { length (records_of (as_module m.now) ticks) ≤ length room.old }
     ensures long { result ≡ length (records_of (as_module m.now) ticks) }
