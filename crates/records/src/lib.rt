@@ -140,40 +140,6 @@ impl Record<'_> {
     }
 }
 
-// How many bytes a tick's record has.
-pub fn record_len(channels: usize, registers: [Command; WIDTH], tick: Tick) -> usize
-    requires { channels ≤ width }
-    ensures { (result ≡ length (record_bytes channels registers tick)) × (result ≤ head_bytes + body_bytes * width) }
-{
-    Record {
-        channels,
-        registers: &registers,
-        tick: &tick,
-    }
-    .len()
-}
-
-// Writes a tick's record at the front of the room, and returns its length.
-pub fn put_record(
-    channels: usize,
-    registers: [Command; WIDTH],
-    tick: Tick,
-    room: &mut [u8],
-) -> usize
-    requires few { channels ≤ width }
-    requires small { SpellableTick channels tick }
-    requires fits { length (record_bytes channels registers tick) ≤ length room.old }
-    ensures long { result ≡ length (record_bytes channels registers tick) }
-    ensures written { room.new ≡ over (record_bytes channels registers tick) room.old }
-{
-    Record {
-        channels,
-        registers: &registers,
-        tick: &tick,
-    }
-    .put(room)
-}
-
 // Writes a stream's header at the front of the room: how many bytes follow its first four, how many channels and how many ticks it has.
 pub fn put_header(channels: usize, follow: usize, count: usize, room: &mut [u8])
     requires few { channels ≤ width }
