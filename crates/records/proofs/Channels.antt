@@ -3,14 +3,13 @@
 use Prim.Native.Nat.{ℕ, suc, ◌+◌, ◌*◌, ◌-◌, ◌/◌, ◌%◌, ◌^◌, ◌≤◌, ◌<◌}
 use mathlib.Core.Path.{◌≡◌, refl, sym, ap, ◌∙◌}
 use mathlib.Core.Bool.{Bool, true, false, cond}
-use mathlib.Core.List.{List, [], ◌∷◌, ◌++◌, append_assoc}
+use mathlib.Core.List.{List, [], ◌∷◌, ◌++◌}
 use native.Mathlib.Omega.{arith}
 use native.Mathlib.Numerals.{add-one}
 use native.Mathlib.Nat.{lt_of_lt_of_le, pow-suc}
 use lib.ListN.{length, get_or, take, drop, drop_of_length-le, length-take, length-drop, length-append}
-use lib.Seq.{drop-cons, get_or-take, sets, sets-eq, length-sets}
+use lib.Seq.{drop-cons, get_or-take, sets, length-sets}
 use lib.Pow.{pow_pos, pow_mono}
-use borrow.Rule.Slice.PartMut.{post_of, Post-is}
 use lib.Count.{ones_step}
 use Rattle.std.specs.Int.{from_bool, to_be_bytes, w16}
 use Rattle.std.specs.Int.RustNames.{count_ones}
@@ -108,12 +107,6 @@ long_by_mask [] cs = refl
 long_by_mask (r ∷ rs) [] = refl
 long_by_mask (r ∷ rs) (c ∷ cs) =
     rw ones_more (omega (arith, length-append (channel_bytes r c) (channels_bytes rs cs), bytes_long (changed r c) c, long_by_mask rs cs))
-
--- ---- a command's bytes as a part of the room
-pub put_part : (room : List ℕ) (at : ℕ) (xs ys : List ℕ) → at + body_bytes ≤ length room → length xs ≡ body_bytes → ys ≡ xs → take at room ++ (ys ++ post_of at (at + body_bytes - at) room) ≡ sets room at xs
-put_part room at xs ys h l e =
-    let rest : post_of at (at + body_bytes - at) room ≡ drop (at + length xs) room = Post-is at (at + body_bytes) room (omega arith) ∙ ap (λ (n : ℕ). drop n room) (omega arith) in
-    rw (e, rest, sets-eq xs room at (omega arith)) (sym (append_assoc (take at room) xs (drop (at + length xs) room)))
 
 -- ---- the bytes, by the mask
 -- what is written up to p, with what the bits left in m say from channel k on, is the whole
