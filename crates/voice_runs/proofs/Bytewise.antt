@@ -2,7 +2,7 @@
 use mathlib.Core.Path.{◌≡◌, sym, ap, ◌∙◌}
 use mathlib.Core.List.{List}
 use Prim.Native.Nat.{ℕ, ◌+◌, ◌-◌, ◌*◌, ◌/◌, ◌≤◌, ◌<◌}
-use native.Mathlib.Nat.{zero-add, zero-mul, suc-mul, add-mul, mul-le-mul, mul-le-mul_right, lt_of_mul-lt-mul_right}
+use native.Mathlib.Nat.{zero-add, suc-mul, add-mul, mul-le-mul, mul-le-mul_right, lt_of_mul-lt-mul_right}
 use native.Mathlib.Omega.{arith}
 use lib.ListN.{length, get_or}
 use lib.IntN.{ℤ}
@@ -10,7 +10,7 @@ use borrow.Rule.Slice.PartMut.{put_mid, mid_of}
 use mir.Syntax.{w64}
 use mir.Val.{Fits}
 use Rattle.runs.specs.Lines.{parts, byte_of}
-use Rattle.runs.specs.Written.{Written, written_none, written_part, written_more}
+use Rattle.runs.specs.Written.{Written, written_part, written_more}
 use Rattle.runs.specs.Inverses.{unit, dividends, most_frames, lasting, lasting_enough, lasting_most, Inverse, product_fits, quotient_low, quotient_high}
 use Rattle.voice_runs.specs.Runs.{product_of, weighed_at, piece}
 
@@ -48,14 +48,6 @@ pub record Bytewise (bytes : List ℕ) (weight from growth inverse : ℕ) (old c
   pub written : Written (weighed_at weight bytes from growth) 0 cell old cells
 
 module _ (bytes : List ℕ) (weight from growth inverse count : ℕ) (old : List ℤ) (v : Inverse growth inverse) (f : from < parts) where
-  pub bytewise_none : Bytewise bytes weight from growth inverse old old ((parts - from + growth - 1) * inverse) 0 0
-  bytewise_none =
-      record {
-        next = ap (λ x. x * inverse) (let e : parts - from + growth - 1 ≡ reach from growth 0 = omega arith in e);
-        here = (omega (arith, zero-mul growth), omega (arith, zero-mul growth));
-        written = written_none _ 0 old;
-      }
-
   module _ (short : count ≤ piece) (cells : List ℤ) (due cell m : ℕ) (b : Bytewise bytes weight from growth inverse old cells due cell m) where
     module _ (h : cell < count) where
       reach_low : reach from growth m + parts < dividends

@@ -39,16 +39,6 @@ module _ (v : Voice) (p : Pace) (weight n : ℕ) (bytes : List ℕ) (old : List 
     unfolding weight_of line_growth
     write_loud from new e w = rw (q, loud_from) (subst (λ f. Written (weighed_at weight bytes f p.growth) 0 n old new) e w)
 
--- ---- a run, by whether it is quiet
-module _ (quiet : Bool) (weight : ℕ) (bytes : List ℕ) (from growth at n : ℕ) (old new : List ℤ) where
-  pub run_quiet : quiet ≡ true → Written (λ _. pos 0) at n old new → Written (weighed_at (weight_of quiet weight) bytes from growth) at n old new
-  unfolding weighed_at weight_of product_of
-  run_quiet e w = rw e (written_as _ _ at n n old new w (le_refl n) (λ j _. sym (*ℤ-zero (signed_of (get_or bytes (byte_of from growth j) 0)))))
-
-  pub run_loud : quiet ≡ false → Written (weighed_at weight bytes from growth) at n old new → Written (weighed_at (weight_of quiet weight) bytes from growth) at n old new
-  unfolding weight_of
-  run_loud e w = rw e w
-
 -- ---- the loop over the runs: k frames are written
 -- what a run's line reads at a volume so many times is what the voice gives so many times
 run_gives : (x : Extent) (v : Voice) (quiet : Bool) (growth count : ℕ) (m : Follows x v quiet growth count) (a : List ℕ) (times j : ℕ) → j < count → weighed_at (weight_of quiet (v.volume * times)) (drop v.index a) v.fraction growth j ≡ one_at times (sample_with a x) v j

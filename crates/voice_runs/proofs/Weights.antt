@@ -7,8 +7,8 @@ use native.Mathlib.Omega.{arith}
 use lib.Dec.{lit<}
 use lib.IntN.{ℤ, pos, negsuc, neg_ℤ, ◌*ℤ◌, negsuc-*ℤ-pos}
 use lib.Signed.{mag}
-use mir.Syntax.{w16, w32}
-use mir.Val.{Fits, SFits, to_z}
+use mir.Syntax.{w16}
+use mir.Val.{SFits, to_z}
 use Rattle.laws.specs.Signed.{mag-mul, back, times_fits, times_is}
 use Rattle.common.specs.Limits.{loudest}
 use Rattle.runs.specs.Lines.{quarter16}
@@ -35,9 +35,6 @@ module _ (r : ℤ) (w : ℕ) (small : mag r < 128) (low : w ≤ 128) where
 
 pub weight_low : (volume times : ℕ) → volume ≤ loudest → times ≤ 2 → volume * times ≤ 128
 weight_low volume times h k = mul-le-mul h k
-
-pub weight_fits : (volume times : ℕ) → volume ≤ loudest → times ≤ 2 → Fits w32 (volume * times)
-weight_fits volume times h k = record { fits = omega (arith, weight_low volume times h k) }
 
 -- ---- times times
 neg_times : (k b : ℕ) → neg_ℤ (pos k) *ℤ pos b ≡ neg_ℤ (pos (k * b))
