@@ -9,9 +9,8 @@ use borrow.Rule.Slice.PartMut.{put_mid, mid_of}
 use lib.ListN.{length, get_or, drop, replicate}
 use lib.IntN.{ℤ, pos, ◌*ℤ◌, *ℤ-zero}
 use Rattle.laws.specs.Tests.{or_parts}
-use Rattle.runs.specs.Cells.{Holds}
 use Rattle.runs.specs.Lines.{byte_of}
-use Rattle.runs.specs.Written.{Written, written_holds, written_none, written_as, written_part, written_fill, written_more}
+use Rattle.runs.specs.Written.{Written, written_none, written_as, written_part, written_fill, written_more}
 use Rattle.reader.specs.declared.Extent.{Extent}
 use Rattle.voice.specs.declared.Voice.{Voice}
 use Rattle.voice.specs.Voice.{silent_of, signed_of, gives_of}
@@ -94,10 +93,3 @@ module _ (bytes : List ℕ) (x : Extent) (times : ℕ) (old : List ℤ) (v₀ : 
               written_more _ 0 k old cells m.written (weighed_at (weight_of quiet weight) (drop v.index bytes) v.fraction growth) count (k + count) (put_mid k (length cells - k) cells part)
               (rw (zero-add k) (written_part _ k (length cells - k) count cells part (omega arith) (omega arith) d)) (omega arith) (λ j h l. later quiet growth count weight j (rw q at f) e h l);
         }
-
-    module _ (n : ℕ) (h : n ≤ k) where
-      pub spreading_voice : k ≤ n → v ≡ steps_of (sample_with bytes x) n v₀
-      spreading_voice l = let q : k ≡ n = omega arith in m.moved ∙ ap (λ i. steps_of (sample_with bytes x) i v₀) q
-
-      pub spreading_numbers : Holds (one_at times (sample_with bytes x) v₀) n cells
-      spreading_numbers = written_holds _ n old cells (written_as _ _ 0 k n old cells m.written h (λ j _. refl))
