@@ -62,11 +62,11 @@ fn write_records(m: &Module, ticks: u32, room: &mut [u8]) -> usize
     let mut len = 0;
     for i in 0..ticks {
         let registers = pass.registers;
-        let tick = pass.next_tick();
+        let told = pass.next_tick();
         let record = Record {
             channels: m.layout.channels,
             registers: &registers,
-            tick: &tick,
+            tick: &told,
         };
         len += record.put(&mut room[len..]);
     }
