@@ -1,71 +1,37 @@
 // How a machine is led to a stream's tick: the ticks before it are played, and nobody hears them.
 ghost use Rattle.std.specs.Prelude.{◌≡◌};
-ghost use Rattle.reader.specs.File.{lent};
-ghost use Rattle.reader.specs.Layouts.{LegalLayout};
-ghost use Rattle.reader.specs.Judge.{verdict};
-ghost use Rattle.reader.specs.Samples.{extents_of};
-ghost use Rattle.decoder.specs.Remaining.{Good};
-ghost use Rattle.board.specs.Leading.{shorter, Led};
+ghost use Rattle.records.specs.Format.{keeps, decode};
+ghost use Rattle.decoder.specs.Whole.{ticks_in};
+ghost use Rattle.decoder.specs.Left.{ticks_left};
+ghost use Rattle.board.specs.Leading.{Leading};
 
-use common::limits::{SAMPLE_NUMBERS, WIDTH};
-use machine::Machine;
-use reader::{Extent, Layout};
-use ticks::Command;
+use decoder::stream::{Stream, Ticks};
+use machine::sounder::Integers;
+use reader::module::Module;
 
-// Where a play begins: the machine, the registers, the place of the next record, and how many records are left.
-#[derive(Clone, Copy)]
-pub struct Beginning {
-    pub machine: Machine,
-    pub registers: [Command; WIDTH],
-    pub place: usize,
-    pub left: usize,
-}
-
-fn least(x: usize, y: usize) -> usize
-    ensures { result ≡ shorter x y }
-{
-    if x < y {
-        return x;
-    }
-    y
-}
-
-// Leads a machine from the beginning of a good stream to a tick, counted from 0, or to its end.
-pub fn lead(
-    layout: Layout,
-    file: &[u8],
-    extents: [Extent; SAMPLE_NUMBERS],
-    stream: &[u8],
-    keeping: bool,
+// Leads a machine from the beginning of a stream, which is for the module, to a tick, counted from 0, or to its end; with the ticks from there on.
+pub fn lead<'m, 's>(
+    m: &'m Module<'m>,
+    stream: &Stream<'s>,
     first: usize,
-) -> Beginning
-    requires layout { LegalLayout layout }
-    requires judged { (verdict (lent layout file.now)).number ≡ 0 }
-    requires table { extents ≡ extents_of (lent layout file.now) }
-    requires good { Good layout.samples layout.channels stream.now }
-    ensures { Led (lent layout file.now) stream.now keeping first result.machine result.registers result.place result.left }
+) -> (Integers<'m>, Ticks<'s>)
+    requires last { stream.now.scope.last ≡ m.now.layout.samples }
+    requires channels { stream.now.scope.channels ≡ m.now.layout.channels }
+    ensures module { result.0.module.now ≡ m.now }
+    ensures keeps { result.0.keeps ≡ keeps stream.now.header.bytes.now }
+    ensures led { Leading m.now (keeps stream.now.header.bytes.now) (ticks_in (decode m.now.layout.samples m.now.layout.channels stream.now.header.bytes.now)) result.0.machine (ticks_left result.1) first }
 {
-    let last = layout.samples as u32;
-    let count = decoder::count_of(stream);
-    let n = least(first, count);
-    let mut machine = machine::fresh();
-    let mut registers = records::at_first();
-    let mut from = decoder::first_record(stream);
-    let mut i = 0;
-    while i < n {
-        let next = decoder::read_record(last, layout.channels, stream, from, registers);
-        let tick = next.tick;
-        let passed = machine::pass_tick(layout, file, extents, machine, tick, keeping);
-        machine = passed;
-        let commands = tick.commands;
-        registers = commands;
-        from = next.next;
-        i += 1;
+    let mut sounder = Integers {
+        module: m,
+        keeps: stream.header.keeps(),
+        machine: machine::fresh(),
+    };
+    let mut ticks = stream.ticks();
+    for _ in 0..first {
+        let Some(tick) = ticks.next() else {
+            return (sounder, ticks);
+        };
+        sounder.pass_tick(&tick);
     }
-    Beginning {
-        machine: machine,
-        registers: registers,
-        place: from,
-        left: count - n,
-    }
+    (sounder, ticks)
 }

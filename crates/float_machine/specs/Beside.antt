@@ -17,7 +17,7 @@ use Rattle.machine.specs.Drift.{sized}
 use Rattle.machine.specs.Carries.{Holds}
 use Rattle.floats.specs.Frames.{floats_of}
 use Rattle.floats.specs.Lengths.{floats_size, floats_append}
-use Rattle.float_machine.specs.declared.FloatMachine.{FloatMachine}
+use Rattle.float_machine.specs.Machine.{FloatMachine}
 use Rattle.float_machine.specs.Machine.{float_frames, float_after, floats_by}
 
 module _ (sides : ℕ) (keeps : Bool) (c : ℕ) (samples : ℕ → Sample) where

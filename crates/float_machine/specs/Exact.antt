@@ -13,7 +13,7 @@ use Rattle.machine.specs.Machine.{frames, after, mechanism}
 use Rattle.machine.specs.Drift.{sized}
 use Rattle.floats.specs.Frames.{unasked}
 use Rattle.floats.specs.Delivered.{In16, Whole, ExactPlay, LastIs, delivered_exact, last_none, last_append, last_is, last_exact}
-use Rattle.float_machine.specs.declared.FloatMachine.{FloatMachine}
+use Rattle.float_machine.specs.Machine.{FloatMachine}
 use Rattle.float_machine.specs.Machine.{float_after, floats_by}
 use Rattle.float_machine.specs.Beside.{same_numbers}
 

@@ -1,4 +1,4 @@
 pub mod Machine
-pub mod Due
+pub mod Sounding
 pub mod Beside
 pub mod Exact

@@ -7,11 +7,18 @@ use Rattle.ticks.specs.Play.{Mechanism}
 use Rattle.machine.specs.declared.Machine.{Machine}
 use Rattle.floats.specs.declared.Pair.{Pair}
 use Rattle.floats.specs.Frames.{floats_of, last_of}
-use Rattle.float_machine.specs.declared.FloatMachine.{FloatMachine}
+
+pub record FloatMachine : Type 0 where
+  pub machine : Machine
+  pub last : Pair
+  pub next : ℕ
+
+abbrev pub float_state : Machine → Pair → ℕ → FloatMachine
+float_state w last next = record { machine = w; last = last; next = next }
 
 -- before a call's first tick, which has number 0: the machine, and the record that the call was given
 abbrev pub float_machine : Machine → Pair → FloatMachine
-float_machine w last = record { machine = w; last = last; next = 0 }
+float_machine w last = float_state w last 0
 
 module _ (k : Mechanism ℤ Machine Tick) where
   -- a tick's numbers: its frames as they are delivered
@@ -20,7 +27,7 @@ module _ (k : Mechanism ℤ Machine Tick) where
 
   -- the machine after it, with its last left and right and its number in the call
   unfoldable pub float_after : FloatMachine → Tick → FloatMachine
-  float_after w t = record { machine = k.after w.machine t; last = last_of w.next w.last (k.frames w.machine t); next = w.next + 1 }
+  float_after w t = float_state (k.after w.machine t) (last_of w.next w.last (k.frames w.machine t)) (w.next + 1)
 
 -- how it plays ticks, for a page of so many sides
 abbrev pub floats_by : ℕ → Mechanism ℤ Machine Tick → Mechanism Float FloatMachine Tick

@@ -1,45 +1,34 @@
 -- What the call goes by: 1 to 9 and 14, then 24, then the play. Laws over plain variables.
 -- Assumes nothing.
-use Prim.Native.Nat.{ℕ}
-use mathlib.Core.Path.{◌≡◌, sym, ap, ◌∙◌}
-use mathlib.Core.Bool.{Bool, true, false}
-use mathlib.Core.List.{List, [], ◌∷◌}
+use Rattle.std.proofs.Common.{◌≡◌, ℕ, true, List, [], refl}
 use lib.Ieee.{Float}
-use Rattle.common.specs.Answers.{refused, outcome, line, Outcome}
+use Rattle.std.specs.Prelude.{Ok, Err}
+use Rattle.common.specs.Answers.{accepted, outcome}
 use Rattle.common.specs.AnswerLaws.{no_line, line_given, line_passed}
-use Rattle.common.specs.declared.Answer.{Answer}
-use Rattle.reader.specs.File.{lent, layout_of, module_of}
-use Rattle.reader.specs.declared.Layout.{Layout}
+use Rattle.common.specs.Refusals.{refusal}
+use Rattle.common.specs.declared.refusals.Refusal.{Refusal}
+use Rattle.reader.specs.File.{module_of}
+use Rattle.reader.specs.Modules.{as_module, module_read}
+use Rattle.reader.specs.declared.module.Module.{Module}
 use Rattle.floats.specs.declared.Pair.{Pair}
-use Rattle.floats.specs.Frames.{unasked}
+use Rattle.floats.specs.declared.Sides.{Sides}
+use Rattle.floats.specs.Asked.{count_of, Asked, sides_asked}
 use Rattle.player.specs.declared.State.{State}
-use Rattle.player.specs.State.{reply}
 use Rattle.player.specs.Legal.{Judged}
-use Rattle.player.specs.Judging.{refused_state, passed_state}
+use Rattle.player.proofs.Admitted.{not_admitted, is_admitted}
 use Rattle.float_player.specs.declared.FloatReply.{FloatReply}
-use Rattle.float_player.specs.Play.{float_reply, floats_from, play_floats_of}
+use Rattle.float_player.specs.Play.{floats_answered, floats_from, play_floats_of}
 
-module _ (layout : Layout) (bytes : List ℕ) (s : State) (v : Answer) (j : Judged (lent layout bytes) s v) (le : layout ≡ layout_of bytes) (n sides : ℕ) (pair : Pair) (out : List Float) (r : FloatReply) where
-  -- a refusal leaves state, record and buffer
-  abbrev refusal : ℕ → ℕ → Outcome FloatReply Float
-  refusal number place = outcome (float_reply (reply (refused number place) s) pair) out
-
-  abbrev work : Outcome FloatReply Float
-  work = floats_from (module_of bytes) s n sides pair out
-
-  pub floats_refused : (v.number ≡ 0 → ⊥) → r ≡ float_reply (reply (refused v.number v.place) s) pair → outcome r out ≡ play_floats_of bytes s n sides pair out
+module _ (bytes : List ℕ) (s : State) (n sides : ℕ) (pair : Pair) (out : List Float) where
+  pub floats_refused : (e : Refusal) → Judged (module_of bytes) s (refusal e) → outcome (floats_answered s pair (Err e)) out ≡ play_floats_of bytes s n sides pair out
   unfolding play_floats_of
-  floats_refused h e = ap (λ (x : FloatReply). outcome x out) e ∙ refused_state layout bytes s v j le refusal work (line 24 (unasked sides) 0 ∷ []) h
+  floats_refused e j = not_admitted bytes s _ _ _ e j _ refl
 
-  module _ (z : v.number ≡ 0) (b : Bool) (be : b ≡ unasked sides) where
-    pub floats_unasked : b ≡ true → r ≡ float_reply (reply (refused 24 0) s) pair → outcome r out ≡ play_floats_of bytes s n sides pair out
+  module _ (j : Judged (module_of bytes) s (accepted 0)) (m : Module) (h : m.file.now ≡ bytes) where
+    pub floats_unasked : (e : Refusal) → Asked sides (Err e) → outcome (floats_answered s pair (Err e)) out ≡ play_floats_of bytes s n sides pair out
     unfolding play_floats_of
-    floats_unasked t e =
-        passed_state layout bytes s v j le refusal work (line 24 (unasked sides) 0 ∷ []) z (outcome r out)
-        (line_given refusal work 24 0 (unasked sides) [] (outcome r out) (sym be ∙ t) (ap (λ (x : FloatReply). outcome x out) e))
+    floats_unasked e a = is_admitted bytes s _ _ _ j _ (line_given _ _ 24 0 _ [] _ a.0 (rw a.1))
 
-    pub floats_played : b ≡ false → (out' : List Float) → outcome r out' ≡ floats_from (lent layout bytes) (record { song = s.song; voices = s.voices; remainder = s.remainder }) n sides pair out → outcome r out' ≡ play_floats_of bytes s n sides pair out
+    pub floats_played : (asked : Sides) → Asked sides (Ok asked) → (r : FloatReply) (out' : List Float) → outcome r out' ≡ floats_from (as_module m) s n (count_of asked) pair out → outcome (floats_answered s pair (Ok r)) out' ≡ play_floats_of bytes s n sides pair out
     unfolding play_floats_of
-    floats_played f out' e =
-        passed_state layout bytes s v j le refusal work (line 24 (unasked sides) 0 ∷ []) z (outcome r out')
-        (line_passed refusal work 24 0 (unasked sides) [] (outcome r out') (sym be ∙ f) (no_line refusal work (outcome r out') (rw le at e)))
+    floats_played asked a r out' e = is_admitted bytes s _ _ _ j _ (line_passed _ _ 24 0 _ [] _ (rw a (sides_asked asked)) (no_line _ _ _ (rw (module_read m bytes h, ← a) at e)))

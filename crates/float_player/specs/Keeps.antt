@@ -18,7 +18,7 @@ use Rattle.voice.specs.Voice.{samples_of}
 use Rattle.machine.specs.Machine.{mechanism_of}
 use Rattle.floats.specs.declared.Pair.{Pair}
 use Rattle.floats.specs.Frames.{unasked, floats_of}
-use Rattle.float_machine.specs.declared.FloatMachine.{FloatMachine}
+use Rattle.float_machine.specs.Machine.{FloatMachine}
 use Rattle.float_machine.specs.Beside.{same_machine, same_numbers}
 use Rattle.player.specs.declared.State.{State}
 use Rattle.player.specs.State.{legal_state}

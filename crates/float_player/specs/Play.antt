@@ -1,14 +1,16 @@
 -- Playing as floats: the ticks of the sequencer from a state, as many as fit, on the machine that plays floats.
 -- Assumes nothing.
-use Rattle.std.specs.Prelude.{ℕ, List, [], ◌∷◌, length, Float}
+use Rattle.std.specs.Prelude.{ℕ, Result, Ok, Err, List, [], ◌∷◌, length, Float}
 use Rattle.common.specs.Answers.{refused, accepted, Outcome, outcome, line, refusing}
+use Rattle.common.specs.Refusals.{refusal}
+use Rattle.common.specs.declared.refusals.Refusal.{Refusal}
 use Rattle.ticks.specs.declared.Tick.{Tick}
 use Rattle.ticks.specs.Play.{Mechanism, rendered, fit, after_fit, play_out}
 use Rattle.reader.specs.File.{Module, module_of}
 use Rattle.machine.specs.Machine.{mechanism_of}
 use Rattle.floats.specs.declared.Pair.{Pair}
 use Rattle.floats.specs.Frames.{unasked}
-use Rattle.float_machine.specs.declared.FloatMachine.{FloatMachine}
+use Rattle.float_machine.specs.Machine.{FloatMachine}
 use Rattle.float_machine.specs.Machine.{float_machine, floats_by}
 use Rattle.player.specs.declared.State.{State}
 use Rattle.player.specs.declared.Reply.{Reply}
@@ -19,6 +21,11 @@ use Rattle.float_player.specs.declared.FloatReply.{FloatReply}
 -- answer and state, and the record after the call
 abbrev pub float_reply : Reply → Pair → FloatReply
 float_reply r pair = record { reply = r; pair = pair }
+
+-- what a call came to: a refusal leaves state and record
+abbrev pub floats_answered : State → Pair → Result FloatReply Refusal → FloatReply
+floats_answered s pair (Ok r) = r
+floats_answered s pair (Err e) = float_reply (reply (refusal e) s) pair
 
 -- how a module's ticks are played as floats
 abbrev pub floats_on : ℕ → Module → Mechanism Float FloatMachine Tick

@@ -4,3 +4,4 @@ pub mod Quotient
 pub mod Lengths
 pub mod Theorems
 pub mod Delivered
+pub mod Asked

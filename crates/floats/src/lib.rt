@@ -1,13 +1,16 @@
 // Frames as 32-bit floats, for a page of one side or two.
 #![tactic(auto)]
 
-ghost use Rattle.std.specs.Prelude.{◌≡◌, ◌+◌, ◌≤◌, ◌+ℤ◌, length, replicate};
+ghost use Rattle.std.specs.Prelude.{◌≡◌, ◌+◌, ◌≤◌, ◌+ℤ◌, length};
 ghost use Rattle.std.proofs.lemmas.List.Edits.{sets};
 ghost use Rattle.std.specs.Float.Ieee.{to_bits};
 ghost use Rattle.std.specs.Float.{binary32};
 ghost use Rattle.ticks.specs.Play.{over};
 ghost use Rattle.floats.specs.Exact.{Exact};
-ghost use Rattle.floats.specs.Frames.{unasked, side_number, mono_number, is_zero, delivered, positive_zero, numbers_in, floats_of, pair_of, last_of};
+ghost use Rattle.floats.specs.Frames.{side_number, mono_number, delivered, numbers_in, floats_of, pair_of, last_of};
+ghost use Rattle.floats.specs.Asked.{count_of, Asked};
+
+use common::refusals::{Refusal, Rule};
 
 // A delivered frame: silence, one mono number, or a left and right number.
 #[derive(Clone, Copy)]
@@ -25,11 +28,35 @@ pub struct Pair {
     pub tick: u32,
 }
 
-// Whether a page asks for neither one side nor two.
-pub fn is_unasked(sides: u32) -> bool
-    ensures { result ≡ unasked sides }
-{
-    (sides != 1) & (sides != 2)
+// How many sides a page asks for.
+#[derive(Clone, Copy, PartialEq, Eq)]
+pub enum Sides {
+    One = 1,
+    Two = 2,
+}
+
+impl Sides {
+    // As a number.
+    pub fn count(self) -> usize
+        ensures { result ≡ count_of self }
+    {
+        self as usize
+    }
+}
+
+// Refusal 24 where a page asks for neither one side nor two.
+impl TryFrom<u32> for Sides {
+    type Error = Refusal;
+
+    ghost try_from_gives = { λ sides asked. Asked sides asked };
+
+    fn try_from(sides: u32) -> Result<Sides, Refusal> {
+        match sides {
+            1 => Ok(Sides::One),
+            2 => Ok(Sides::Two),
+            _ => Err(Rule::Sides.at(0)),
+        }
+    }
 }
 
 // x / 2 ^ 15.
@@ -48,49 +75,34 @@ fn mono_number(left: i16, right: i16) -> f32
     (left as i32 + right as i32) as f32 / 65536.0
 }
 
-fn is_zero(x: i16) -> bool
-    ensures { result ≡ is_zero x }
-{
-    x == 0
-}
-
 // A frame as it is delivered.
-pub fn deliver(left: i16, right: i16, sides: u32) -> Frame
-    ensures { result ≡ delivered sides left right }
+pub fn deliver(left: i16, right: i16, sides: Sides) -> Frame
+    ensures { result ≡ delivered (count_of sides) left right }
 {
-    let silent = is_zero(left) & is_zero(right);
-    if silent {
+    if left == 0 && right == 0 {
         return Frame::Silence;
     }
-    if sides == 1 {
-        return Frame::Mono(mono_number(left, right));
+    match sides {
+        Sides::One => Frame::Mono(mono_number(left, right)),
+        Sides::Two => Frame::Stereo(side_number(left), side_number(right)),
     }
-    Frame::Stereo(side_number(left), side_number(right))
 }
 
-// Zeros into out from a position on, as many as the page has sides.
-fn store_silence(sides: u32, out: &mut [f32], at: usize)
-    requires asked { (1 ≤ sides) × (sides ≤ 2) }
-    requires room { at + sides ≤ length out.old }
-    ensures { out.new ≡ sets out.old at (replicate sides positive_zero) }
-{
-    out[at] = 0.0;
-    if sides == 1 {
-        return;
-    }
-    out[at + 1] = 0.0;
-}
-
-// A delivered frame's numbers into out from a position on.
-pub fn store(frame: Frame, sides: u32, out: &mut [f32], at: usize)
-    requires asked { (1 ≤ sides) × (sides ≤ 2) }
-    requires room { at + length (numbers_in sides frame) ≤ length out.old }
-    ensures { out.new ≡ sets out.old at (numbers_in sides frame) }
+// A delivered frame's numbers into out from a position on: silence takes as many zeros as the page has sides.
+pub fn store(frame: Frame, sides: Sides, out: &mut [f32], at: usize)
+    requires { at + length (numbers_in (count_of sides) frame) ≤ length out.old }
+    ensures { out.new ≡ sets out.old at (numbers_in (count_of sides) frame) }
 {
     match frame {
-        Frame::Silence => {
-            store_silence(sides, out, at);
-        }
+        Frame::Silence => match sides {
+            Sides::One => {
+                out[at] = 0.0;
+            }
+            Sides::Two => {
+                out[at] = 0.0;
+                out[at + 1] = 0.0;
+            }
+        },
         Frame::Mono(x) => {
             out[at] = x;
         }
@@ -111,33 +123,20 @@ fn pair_at(left: i16, right: i16, tick: u32) -> Pair
     }
 }
 
-// A frame into out from a position on.
-fn put_frame(left: i16, right: i16, sides: u32, out: &mut [f32], at: usize)
-    requires asked { (1 ≤ sides) × (sides ≤ 2) }
-    requires room { at + sides ≤ length out.old }
-    ensures { out.new ≡ sets out.old at (numbers_in sides (delivered sides left right)) }
-{
-    store(deliver(left, right, sides), sides, out, at);
-}
-
 // A tick's frames, left and right in turn, into the front of out, whose rest stays, and the record after them.
-pub fn convert(frames: &[i16], sides: u32, tick: u32, old: Pair, out: &mut [f32]) -> Pair
-    requires asked { (1 ≤ sides) × (sides ≤ 2) }
-    requires room { length (floats_of sides frames.now) ≤ length out.old }
+pub fn convert(frames: &[i16], sides: Sides, tick: u32, old: Pair, out: &mut [f32]) -> Pair
+    requires { length (floats_of (count_of sides) frames.now) ≤ length out.old }
     ensures last { result ≡ last_of tick old frames.now }
-    ensures written { out.new ≡ over (floats_of sides frames.now) out.old }
+    ensures written { out.new ≡ over (floats_of (count_of sides) frames.now) out.old }
 {
-    let step = sides as usize;
     let mut last = old;
-    let mut at: usize = 0;
-    let mut k: usize = 0;
-    while 1 < frames.len() - k {
-        let left = frames[k];
-        let right = frames[k + 1];
-        put_frame(left, right, sides, out, at);
+    let mut at = 0;
+    let (pairs, _) = frames.as_chunks::<2>();
+    for pair in pairs {
+        let [left, right] = *pair;
+        store(deliver(left, right, sides), sides, out, at);
         last = pair_at(left, right, tick);
-        at = at + step;
-        k = k + 2;
+        at += sides.count();
     }
     last
 }

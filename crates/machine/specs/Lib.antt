@@ -6,3 +6,4 @@ pub mod Kept
 pub mod Drift
 pub mod Turns
 pub mod Carries
+pub mod Sounding

@@ -57,6 +57,15 @@ module _ {A W S : Type 0} (m : Mechanism A W S) (w : W) (t : S) (out : List A) (
   pub turn_machine : r.full ≡ false → r.machine ≡ m.after w t
   turn_machine h = (turn_fits h).machine
 
+-- the machine after a turn that does not
+pub turn_stays : {A W S : Type 0} (m : Mechanism A W S) (w : W) (t : S) (out : List A) (r : Turned A W) → r ≡ turn_of m w t out → r.full ≡ true → r.machine ≡ w
+unfolding turn_of
+turn_stays {A = A} {W = W} m w t out r e h = go (ltb (length out) (length (m.frames w t))) e
+  where
+    go : (b : Bool) → r ≡ cond b (turn true 0 w out) (turn false (length (m.frames w t)) (m.after w t) (over (m.frames w t) out)) → r.machine ≡ w
+    go true q = ap (λ (x : Turned A W). x.machine) q
+    go false q = absurd (subst T (sym h ∙ ap (λ (x : Turned A W). x.full) q) tt)
+
 -- ---- a turn of the loop
 module _ {A W S : Type 0} (m : Mechanism A W S) (w₀ : W) (ts₀ : List S) (out₀ : List A) (w : W) (ts : List S) (out : List A) (at i : ℕ) (p : Playing m w₀ ts₀ out₀ w ts out at i) (t : S) (rest : List S) (e : ts ≡ t ∷ rest) (r : Turned A W) (q : r ≡ turn_of m w t (take (length out - at) (drop at out))) where
   -- the next tick does not fit: the buffer stays

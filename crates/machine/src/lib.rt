@@ -17,6 +17,8 @@ use runs::FRAME_NUMBERS;
 use ticks::Tick;
 use voice::Voice;
 
+pub mod sounder;
+
 // A voice for each channel, the tempo of the tick before and the remainder that it left.
 #[derive(Clone, Copy)]
 pub struct Machine {

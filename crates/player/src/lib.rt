@@ -77,16 +77,7 @@ pub fn play(file: &[u8], state: &mut State, ticks: u32, out: &mut [i16]) -> Resu
     ensures { outcome (reply (answered result) state.new) out.new ≡ play_of file.now state.old ticks out.old }
 {
     let module = legality::admit(file, state)?;
-    let played = playing::play_ticks(
-        module.layout,
-        module.file,
-        module.extents,
-        state.song,
-        state.voices,
-        state.remainder,
-        ticks,
-        out,
-    );
+    let played = playing::play_ticks(&module, *state, ticks, out);
     *state = played.state;
     Ok(played.answer.count)
 }

@@ -1,44 +1,36 @@
 // Playing ticks one by one into a buffer.
-ghost use Rattle.std.specs.Prelude.{◌≡◌};
+ghost use Rattle.std.specs.Prelude.{◌≡◌, true, ◌<◌, ◌^◌, length};
 ghost use Rattle.common.specs.Answers.{accepted, outcome};
-ghost use Rattle.reader.specs.File.{lent};
-ghost use Rattle.reader.specs.Judge.{verdict};
-ghost use Rattle.reader.specs.Samples.{extents_of};
-ghost use Rattle.reader.specs.Layouts.{LegalLayout};
+ghost use Rattle.reader.specs.Modules.{as_module};
 ghost use Rattle.sequencer.specs.LegalFacts.{LegalRun};
 ghost use Rattle.sequencer.specs.Songs.{tick_of};
 ghost use Rattle.player.specs.State.{reply};
-ghost use Rattle.player.specs.Play.{soundings, played_from};
-ghost use Rattle.player.specs.Legal.{Playable};
+ghost use Rattle.player.specs.Play.{soundings, machine_of, played_from};
+ghost use Rattle.player.specs.State.{legal_state};
+ghost use Rattle.player.specs.Running.{Over};
+ghost use Rattle.player.specs.Turning.{Begins, state_of, voices_in};
 
 use crate::{Reply, State};
-use common::limits::{SAMPLE_NUMBERS, WIDTH};
+use common::limits::WIDTH;
 use machine::Machine;
-use reader::{Extent, Layout};
+use machine::sounder::{Integers, Sounder};
+use reader::module::Module;
 use sequencer::{Song, Worked};
 use voice::Voice;
 
 // The sounding sample numbers.
-fn soundings(voices: [Voice; WIDTH]) -> [u8; WIDTH]
-    ensures { result ≡ soundings voices }
+fn soundings(voices: &[Voice; WIDTH]) -> [u8; WIDTH]
+    ensures { result ≡ soundings voices.now }
 {
-    let mut samples = [0u8; WIDTH];
-    for i in 0..WIDTH {
-        let voice = voices[i];
-        samples[i] = voice.sample;
-    }
-    samples
+    voices.map(|voice| voice.sample)
 }
 
-// The song's next tick, beside the machine's sounding samples.
-pub fn next_tick(layout: Layout, file: &[u8], song: Song, machine: Machine) -> Worked
-    requires layout { LegalLayout layout }
-    requires accepted { (verdict (lent layout file.now)).number ≡ 0 }
-    requires legal { LegalRun (lent layout file.now) song (soundings machine.voices) }
-    ensures { result ≡ tick_of (lent layout file.now) song (soundings machine.voices) }
+// The song's next tick, beside the sounding samples of a sounder's machine.
+fn next_tick<S: Sounder>(sounder: &S, song: Song) -> Worked
+    requires { LegalRun (as_module (S.way sounder.now).source) song (soundings (voices_in (S.way sounder.now) (S.state sounder.now))) }
+    ensures { result ≡ tick_of (as_module (S.way sounder.now).source) song (soundings (voices_in (S.way sounder.now) (S.state sounder.now))) }
 {
-    let voices = machine.voices;
-    sequencer::tick(layout, file, song, soundings(voices))
+    song.tick(sounder.module(), soundings(&sounder.machine().voices))
 }
 
 pub fn after_ticks(song: Song, machine: Machine, count: u32) -> Reply
@@ -55,41 +47,58 @@ pub fn after_ticks(song: Song, machine: Machine, count: u32) -> Reply
     }
 }
 
-// Plays at most n ticks of an accepted module from a legal state.
-pub fn play_ticks(
-    layout: Layout,
-    file: &[u8],
-    extents: [Extent; SAMPLE_NUMBERS],
+// Plays at most n ticks of a song: the song after those that fit, and how many they are.
+pub fn play_song<S: Sounder>(
+    sounder: &mut S,
     start: Song,
-    sounding: [Voice; WIDTH],
-    left: u32,
     n: u32,
-    out: &mut [i16],
-) -> Reply
-    requires playable { Playable (lent layout file.now) (record { song = start; voices = sounding; remainder = left }) }
-    requires table { extents ≡ extents_of (lent layout file.now) }
-    ensures { outcome result out.new ≡ played_from (lent layout file.now) (record { song = start; voices = sounding; remainder = left }) n out.old }
+    out: &mut [S::Number],
+) -> (Song, u32)
+    requires begins { Begins (S.way sounder.old) (S.state sounder.old) start }
+    requires uncounted { S.counted sounder.old ≡ 0 }
+    requires narrow { length out.old < 2 ^ 62 }
+    ensures { Over (S.way sounder.old).plays (voices_in (S.way sounder.old)) (as_module (S.way sounder.old).source) (state_of start ((S.way sounder.old).held (S.state sounder.old))) (S.state sounder.old) n out.old result.0 (S.state sounder.new) out.new result.1 }
 {
     let mut song = start;
-    let mut machine = Machine {
-        voices: sounding,
-        tempo: start.time.tempo,
-        remainder: left,
-    };
-    let mut at: usize = 0;
-    let mut i: u32 = 0;
-    while i < n {
-        let worked = next_tick(layout, file, song, machine);
-        let next = worked.song;
-        let tick = worked.tick;
-        let turn = machine::play_tick(layout, file, extents, machine, tick, true, &mut out[at..]);
-        if turn.full {
-            return after_ticks(song, machine, i);
+    let mut at = 0;
+    for i in 0..n {
+        let worked = next_tick(sounder, song);
+        match sounder.play_tick(worked.tick, &mut out[at..]) {
+            None => {
+                return (song, i);
+            }
+            Some(size) => {
+                song = worked.song;
+                at += size;
+            }
         }
-        machine = turn.machine;
-        song = next;
-        at = at + turn.size;
-        i = i + 1;
     }
-    after_ticks(song, machine, i)
+    (song, n)
+}
+
+// The state's machine.
+pub fn machine_of(state: State) -> Machine
+    ensures { result ≡ machine_of state }
+{
+    let voices = state.voices;
+    Machine {
+        voices,
+        tempo: state.song.time.tempo,
+        remainder: state.remainder,
+    }
+}
+
+// Plays at most n ticks of a module from a legal state.
+pub fn play_ticks(m: &Module, state: State, n: u32, out: &mut [i16]) -> Reply
+    requires { legal_state (as_module m.now) state ≡ true }
+    ensures { outcome result out.new ≡ played_from (as_module m.now) state n out.old }
+{
+    let machine = machine_of(state);
+    let mut sounder = Integers {
+        module: m,
+        keeps: true,
+        machine,
+    };
+    let (song, count) = play_song(&mut sounder, state.song, n, out);
+    after_ticks(song, sounder.machine, count)
 }

@@ -1,25 +1,31 @@
--- The loop: the numbers that are stored, followed by those of the frames that are left, are the whole (`Going`).
-use borrow.Author.Rules.{rules}
-use Rattle.floats.proofs.Converting.{going_begin, going_first, going_second, going_room, going_again, going_last, going_out}
+-- The loop: the numbers that are stored, followed by those of the pairs that are left, are the whole (`Going`).
+use Rattle.std.proofs.Common.{rules, arith}
+use Rattle.floats.specs.Asked.{sides_some, sides_few}
+use Rattle.floats.proofs.Converting.{pair_more, pair_none, pair_there, going_begin, going_room, going_next, going_again, going_last, going_out}
 use Rattle.floats.proofs.convert.Goals as goal
 
-pub loop-k-init : goal.loop-k-init
-loop-k-init c = search (going_begin, rules)
+pub loop-pair-init : goal.loop-pair-init
+loop-pair-init c = going_begin _ _ _ _ _ (sides_some c.args.sides, sides_few c.args.sides) c.requires (search rules)
 
-pub bounds-frames-k : goal.bounds-frames-k
-bounds-frames-k c = search (going_first, rules)
+pub store-requires : goal.store-requires
+store-requires c =
+    let p = c.as_chunks.ensures in
+    going_room _ _ _ _ _ _ _ _ _ c.loop-pair.invariant (pair_more _ _ p.front p.front_len _ c.loop-pair-test.true) _ (pair_there _ _ p.front p.front_len _ c.loop-pair-test.true) (search rules) (search rules) _ c.deliver.ensures
 
-pub bounds-frames-k-in-loop-k : goal.bounds-frames-k-in-loop-k
-bounds-frames-k-in-loop-k c = search (going_second, rules)
+pub overflow_add-at : goal.overflow_add-at
+overflow_add-at c =
+    let p = c.as_chunks.ensures in
+    rw c.count-at.ensures
+    (going_next _ _ _ _ _ _ _ _ _ c.loop-pair.invariant (pair_more _ _ p.front p.front_len _ c.loop-pair-test.true) _ (pair_there _ _ p.front p.front_len _ c.loop-pair-test.true) (search rules) (search rules) _ c.deliver.ensures)
 
-pub put_frame-requires : goal.put_frame-requires
-put_frame-requires c = search (going_room, rules)
-
-pub loop-k-preserved : goal.loop-k-preserved
-loop-k-preserved c = search (going_again, rules)
+pub loop-pair-preserved : goal.loop-pair-preserved
+loop-pair-preserved c =
+    let p = c.as_chunks.ensures in
+    rw c.count-at.ensures
+    (going_again _ _ _ _ _ _ _ _ _ c.loop-pair.invariant (pair_more _ _ p.front p.front_len _ c.loop-pair-test.true) _ (pair_there _ _ p.front p.front_len _ c.loop-pair-test.true) (search rules) (search rules) _ c.deliver.ensures _ _ c.store.ensures c.pair_at-last.ensures _ (omega arith))
 
 pub returns-clause-last : goal.returns-clause-last
-returns-clause-last c = search (going_last, rules)
+returns-clause-last c = let p = c.as_chunks.ensures in going_last _ _ _ _ _ _ _ _ _ c.loop-pair.invariant (pair_none _ _ p.front p.front_len _ c.loop-pair-test.false)
 
 pub returns-clause-written : goal.returns-clause-written
-returns-clause-written c = search (going_out, rules)
+returns-clause-written c = let p = c.as_chunks.ensures in going_out _ _ _ _ _ _ _ _ _ c.loop-pair.invariant (pair_none _ _ p.front p.front_len _ c.loop-pair-test.false) c.requires

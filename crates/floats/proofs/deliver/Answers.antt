@@ -1,13 +1,12 @@
 -- A law for each case of the frame.
-use borrow.Author.Rules.{rules}
 use Rattle.floats.proofs.Storing.{gives_silence, gives_mono, gives_stereo}
 use Rattle.floats.proofs.deliver.Goals as goal
 
-pub returns-then-silent : goal.returns-then-silent
-returns-then-silent c = search (gives_silence, rules)
+pub returns-then-right-eq0 : goal.returns-then-right-eq0
+returns-then-right-eq0 c = gives_silence _ _ c.ranges.left c.ranges.right _ c.if-left-eq0.true c.if-right-eq0.true
 
-pub returns-then-sides-eq1 : goal.returns-then-sides-eq1
-returns-then-sides-eq1 c = search (gives_mono, rules)
+pub returns-in-One : goal.returns-in-One
+returns-in-One c = gives_mono _ _ c.ranges.left c.ranges.right c.else-left-eq0.either _ _ c.in-One.is c.mono_number.ensures.number
 
-pub returns : goal.returns
-returns c = search (gives_stereo, rules)
+pub returns-in-Two : goal.returns-in-Two
+returns-in-Two c = gives_stereo _ _ c.ranges.left c.ranges.right c.else-left-eq0.either _ _ _ c.in-Two.is c.side_number.ensures.number c.side_number-in-Two.ensures.number

@@ -1,35 +1,38 @@
--- The loop: the machine is the one before tick i, and the records left are those from there on (`Leading`).
-use borrow.Author.Rules.{rules}
-use Rattle.board.specs.Leading.{leading_none, leading_layout, leading_few, leading_low, leading_some, leading_ready, leading_more, leading_end}
-use Rattle.board.specs.Turning.{good_long, good_least}
+-- The loop: the machine is the one before tick i, and the ticks left are those from there on (`Leading`).
+use Rattle.std.proofs.Common.{refl}
+use Rattle.board.specs.Leading.{leading_none, leading_low, leading_more, leading_over}
+use Rattle.board.specs.Going.{going_ready, going_some}
 use Rattle.board.proofs.lead.lead.Goals as goal
 
-pub count_of-count-requires : goal.count_of-count-requires
-count_of-count-requires c = search (good_long, rules)
+pub loop-init : goal.loop-init
+loop-init c = record { source = refl; keeping = c.keeps.ensures; leading = ? }
 
-pub first_record-from-requires : goal.first_record-from-requires
-first_record-from-requires c = search (good_least, rules)
+pub returns-in_default-clause-module : goal.returns-in_default-clause-module
+returns-in_default-clause-module c = c.loop.invariant.source
 
-pub loop-i-init : goal.loop-i-init
-loop-i-init c = search (leading_none, rules)
+pub returns-in_default-clause-keeps : goal.returns-in_default-clause-keeps
+returns-in_default-clause-keeps c = c.loop.invariant.keeping
 
-pub read_record-next-requires : goal.read_record-next-requires
-read_record-next-requires c = search (leading_few, rules)
+pub returns-in_default-clause-led : goal.returns-in_default-clause-led
+returns-in_default-clause-led c = ?
 
-pub pass_tick-passed-requires-clause-layout : goal.pass_tick-passed-requires-clause-layout
-pass_tick-passed-requires-clause-layout c = search (leading_layout, rules)
+pub pass_tick-requires-clause-ready : goal.pass_tick-requires-clause-ready
+pass_tick-requires-clause-ready c = rw c.loop.invariant.source (going_ready c.loop.invariant.leading.going _ _ c.in-Some.ensures.steps)
 
-pub pass_tick-passed-requires-clause-ready : goal.pass_tick-passed-requires-clause-ready
-pass_tick-passed-requires-clause-ready c = search (leading_ready, rules)
+pub pass_tick-requires-clause-tempo : goal.pass_tick-requires-clause-tempo
+pass_tick-requires-clause-tempo c = going_some c.loop.invariant.leading.going _ _ c.in-Some.ensures.steps
 
-pub pass_tick-passed-requires-clause-tempo : goal.pass_tick-passed-requires-clause-tempo
-pass_tick-passed-requires-clause-tempo c = search (leading_some, rules)
+pub pass_tick-requires-clause-remainder : goal.pass_tick-requires-clause-remainder
+pass_tick-requires-clause-remainder c = leading_low c.loop.invariant.leading
 
-pub pass_tick-passed-requires-clause-remainder : goal.pass_tick-passed-requires-clause-remainder
-pass_tick-passed-requires-clause-remainder c = search (leading_low, rules)
+pub loop-preserved : goal.loop-preserved
+loop-preserved c = ?
 
-pub loop-i-preserved : goal.loop-i-preserved
-loop-i-preserved c = search (leading_more, rules)
+pub returns-clause-module : goal.returns-clause-module
+returns-clause-module c = c.loop.invariant.source
 
-pub returns : goal.returns
-returns c = search (leading_end, rules)
+pub returns-clause-keeps : goal.returns-clause-keeps
+returns-clause-keeps c = c.loop.invariant.keeping
+
+pub returns-clause-led : goal.returns-clause-led
+returns-clause-led c = ?
