@@ -17,7 +17,10 @@ use Rattle.reader.specs.declared.module.Module.{Module}
 use Rattle.voice.specs.Voice.{samples_of}
 use Rattle.machine.specs.declared.Machine.{Machine}
 use Rattle.machine.specs.Machine.{fresh_machine, after, mechanism}
-use Rattle.records.specs.Format.{at_first}
+use Rattle.records.specs.Format.{at_first, decode}
+use Rattle.decoder.specs.declared.stream.Stream.{Stream}
+use Rattle.decoder.specs.Remaining.{whole_legal}
+use Rattle.decoder.specs.Whole.{ticks_in}
 use Rattle.board.specs.Board.{led_to}
 use Rattle.board.specs.Going.{Going, going_begin, going_more}
 
@@ -76,3 +79,7 @@ module _ {m : Module} {keeping : Bool} {its : List Tick} where
     leading_over first h e =
         let o = led_over keeping m.layout.channels (samples_of (as_module m)) i first its h (sym g.left ∙ e) in
         record { machine = g.machine ∙ o.0; left = g.left ∙ o.1; going = g.going }
+
+-- the ticks of a stream that is for the module are legal
+pub led_legal : (m : Module) (s : Stream) → s.scope.last ≡ m.layout.samples → s.scope.channels ≡ m.layout.channels → LegalTicks m.layout.samples (sounding_of at_first) (ticks_in (decode m.layout.samples m.layout.channels s.header.bytes.now))
+led_legal m s p q = rw (← p, ← q) (whole_legal s.scope.last s.scope.channels s.header.bytes.now s.whole)

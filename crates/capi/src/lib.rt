@@ -182,7 +182,7 @@ pub extern "C" fn lampthistle_play_stream(
     ensures answered { answer.new ≡ answer_cells (play_stream_of file.now stream.now out.old).reply }
     ensures sounded { out.new ≡ (play_stream_of file.now stream.now out.old).out }
 {
-    put_answer(board::play_stream(stream, file, out), answer);
+    put_answer(board::play_stream(stream, file, out).into(), answer);
 }
 
 // Plays a stream's ticks from one on, counted from 0, with a module's samples.
@@ -198,7 +198,7 @@ pub extern "C" fn lampthistle_play_stream_from(
     ensures sounded { out.new ≡ (play_stream_from_of file.now stream.now from out.old).out }
 {
     let first = from as usize;
-    put_answer(board::play_stream_from(stream, file, first, out), answer);
+    put_answer(board::play_stream_from(stream, file, first, out).into(), answer);
 }
 
 // Plays the largest number of whole ticks, up to `ticks`, whose numbers fit into out, as floats for one side or two.

@@ -1,46 +1,57 @@
 -- What the call goes by: 1 to 9, then 24, then 21, 22, 28 and 23, then the play. Laws over plain variables.
 -- Assumes nothing.
-use Prim.Native.Nat.{ℕ}
-use mathlib.Core.Path.{◌≡◌, ap, subst}
-use mathlib.Core.Bool.{Bool, true, false}
-use mathlib.Core.List.{List}
+use Rattle.std.proofs.Common.{◌≡◌, ℕ, List, [], refl, ap, subst}
 use lib.Ieee.{Float}
-use borrow.Author.Tests.{eq-eqb, ne_eqb}
-use Rattle.common.specs.Answers.{refused, outcome, refusing}
+use Rattle.std.specs.Prelude.{Ok, Err}
+use Rattle.common.specs.Answers.{accepted, outcome}
+use Rattle.common.specs.AnswerLaws.{no_line, line_given, line_passed}
+use Rattle.common.specs.RefusalLaws.{refused_by_a_rule}
+use Rattle.common.specs.Refusals.{refusal}
 use Rattle.common.specs.declared.Answer.{Answer}
-use Rattle.reader.specs.File.{lent, layout_of, module_of}
-use Rattle.reader.specs.Judge.{verdict}
-use Rattle.reader.specs.declared.Layout.{Layout}
+use Rattle.common.specs.declared.refusals.Refusal.{Refusal}
+use Rattle.ticks.specs.declared.Tick.{Tick}
+use Rattle.ticks.specs.Playing.{Played}
+use Rattle.reader.specs.File.{Module as FileModule, module_of, sample_count, channel_count}
+use Rattle.reader.specs.Judge.{judge_of}
+use Rattle.reader.specs.Modules.{as_module, module_read, read_refused, read_passed}
+use Rattle.reader.specs.declared.module.Module.{Module}
 use Rattle.voice.specs.Voice.{samples_of}
+use Rattle.machine.specs.declared.Machine.{Machine}
+use Rattle.float_machine.specs.Machine.{FloatMachine, float_machine}
+use Rattle.float_machine.specs.Sounding.{floats}
 use Rattle.floats.specs.declared.Pair.{Pair}
-use Rattle.floats.specs.Frames.{unasked}
-use Rattle.records.specs.Format.{keeps, Decoded, refusal, ticks, decode}
+use Rattle.floats.specs.declared.Sides.{Sides}
+use Rattle.floats.specs.Asked.{count_of, Asked, sides_asked}
+use Rattle.records.specs.Format.{keeps, Decoded, ticks, decode}
+use Rattle.records.specs.Format.Decoded.{refusal as refused_at}
 use Rattle.decoder.specs.Answers.{answer_of}
-use Rattle.float_board.specs.declared.FloatAnswer.{FloatAnswer}
-use Rattle.float_board.specs.Board.{float_answer, floats_board_by, float_board_of, play_stream_floats_from_of}
+use Rattle.decoder.specs.Whole.{Whole, ticks_in}
+use Rattle.decoder.specs.Remaining.{whole_ticks}
+use Rattle.float_board.specs.Board.{float_answer, floats_answered, played_floats, floats_board_by, play_stream_floats_from_of}
+use Rattle.board.specs.Leading.{Leading}
 
-module _ (layout : Layout) (bytes s : List ℕ) (first sides : ℕ) (pair : Pair) (out : List Float) (v : Answer) (e : v ≡ verdict (lent layout bytes)) (le : layout ≡ layout_of bytes) where
-  here : v ≡ verdict (module_of bytes)
-  here = subst (λ (l : Layout). v ≡ verdict (lent l bytes)) le e
+module _ (bytes s : List ℕ) (first : ℕ) (sides : ℕ) (pair : Pair) (out : List Float) where
+  pub stream_unread : (e : Refusal) → judge_of bytes ≡ refusal e → outcome (floats_answered pair (Err e)) out ≡ play_stream_floats_from_of bytes s first sides pair out
+  unfolding play_stream_floats_from_of
+  stream_unread e j = read_refused _ _ bytes _ _ e j refl
 
-  pub module_refused : (a : FloatAnswer) → (v.number ≡ 0 → ⊥) → a ≡ float_answer (refused v.number v.place) pair → outcome a out ≡ play_stream_floats_from_of bytes s first sides pair out
-  unfolding play_stream_floats_from_of refusing
-  module_refused a h q = rw (← here, ne_eqb v.number 0 h, q)
+  module _ (m : Module) (f : m.file.now ≡ bytes) where
+    pub stream_unasked : (e : Refusal) → Asked sides (Err e) → outcome (floats_answered pair (Err e)) out ≡ play_stream_floats_from_of bytes s first sides pair out
+    unfolding play_stream_floats_from_of
+    stream_unasked e a = read_passed _ _ bytes _ _ m f (line_given _ _ 24 0 _ [] _ a.0 (rw a.1))
 
-  module _ (z : v.number ≡ 0) (b : Bool) (be : b ≡ unasked sides) where
-    pub sides_refused : (a : FloatAnswer) → b ≡ true → a ≡ float_answer (refused 24 0) pair → outcome a out ≡ play_stream_floats_from_of bytes s first sides pair out
-    unfolding play_stream_floats_from_of refusing
-    sides_refused a t q = rw (← here, eq-eqb v.number 0 z, ← be, t, q)
+    pub stream_refused : (asked : Sides) → Asked sides (Ok asked) → (last c : ℕ) → last ≡ m.layout.samples → c ≡ m.layout.channels → (e : Refusal) → refusal e ≡ answer_of (decode last c s) → outcome (floats_answered pair (Err e)) out ≡ play_stream_floats_from_of bytes s first sides pair out
+    unfolding play_stream_floats_from_of floats_board_by answer_of
+    stream_refused asked a last c p q e x =
+        let P : FileModule → Type 0 = λ v. outcome (float_answer (refusal e) pair) out ≡ floats_board_by (keeps s) (channel_count v) (samples_of v) first (decode (sample_count v) (channel_count v) s) sides pair out in
+        read_passed _ _ bytes _ _ m f (line_passed _ _ 24 0 _ [] _ (rw a (sides_asked asked)) (no_line _ _ _ (subst P (module_read m bytes f) (go (decode m.layout.samples m.layout.channels s) (rw (p, q) at x)))))
+      where
+        go : (d : Decoded) → refusal e ≡ answer_of d → outcome (float_answer (refusal e) pair) out ≡ floats_board_by (keeps s) m.layout.channels (samples_of (as_module m)) first d sides pair out
+        go (refused_at number place) y = rw y
+        go (ticks ts) y = absurd (refused_by_a_rule e.rule (ap (λ (a : Answer). a.number) y))
 
-    module _ (f : b ≡ false) where
-      pub stream_played : (a : FloatAnswer) (out' : List Float) → outcome a out' ≡ float_board_of layout.samples layout.channels (samples_of (lent layout bytes)) first s sides pair out → outcome a out' ≡ play_stream_floats_from_of bytes s first sides pair out
-      unfolding play_stream_floats_from_of refusing
-      stream_played a out' p = rw (← here, eq-eqb v.number 0 z, ← be, f) (rw le at p)
-
-      pub stream_refused : (last : ℕ) (u : Answer) (a : FloatAnswer) → last ≡ layout.samples → u ≡ answer_of (decode last layout.channels s) → (u.number ≡ 0 → ⊥) → a ≡ float_answer (refused u.number u.place) pair → outcome a out ≡ play_stream_floats_from_of bytes s first sides pair out
-      unfolding floats_board_by answer_of
-      stream_refused last u a l x n q = stream_played a out (go (decode layout.samples layout.channels s) (rw l at x))
-        where
-          go : (d : Decoded) → u ≡ answer_of d → outcome a out ≡ floats_board_by (keeps s) layout.channels (samples_of (lent layout bytes)) first d sides pair out
-          go (refusal number place) y = rw (q, y)
-          go (ticks ts) y = absurd (n (ap (λ (w : Answer). w.number) y))
+    pub stream_played : (asked : Sides) → Asked sides (Ok asked) → Whole m.layout.samples m.layout.channels s → (w : Machine) (w' : FloatMachine) (ts : List Tick) (out' : List Float) (n : ℕ) → Leading m (keeps s) (ticks_in (decode m.layout.samples m.layout.channels s)) w ts first → Played (floats (count_of asked) m (keeps s)).plays (float_machine w pair) ts out w' out' n → outcome (float_answer (accepted n) w'.last) out' ≡ play_stream_floats_from_of bytes s first sides pair out
+    unfolding play_stream_floats_from_of floats_board_by played_floats
+    stream_played asked a h w w' ts out' n l p =
+        let P : FileModule → Type 0 = λ v. outcome (float_answer (accepted n) w'.last) out' ≡ floats_board_by (keeps s) (channel_count v) (samples_of v) first (decode (sample_count v) (channel_count v) s) sides pair out in
+        read_passed _ _ bytes _ _ m f (line_passed _ _ 24 0 _ [] _ (rw a (sides_asked asked)) (no_line _ _ _ (subst P (module_read m bytes f) (rw (whole_ticks m.layout.samples m.layout.channels s h, a, p.count, ap (λ (x : FloatMachine). x.last) p.state, p.cells, l.left, l.machine)))))

@@ -1,9 +1,11 @@
 -- The stream player as floats: a stream's ticks on stopped voices, from any tick on, as many as fit into the output, on the machine that plays floats.
 -- It takes the samples with their lengths and loops, and never the module: that is judged, and lends its samples.
 -- Assumes nothing.
-use Rattle.std.specs.Prelude.{ℕ, Bool, List, [], ◌∷◌, length, drop, Float}
+use Rattle.std.specs.Prelude.{ℕ, Result, Ok, Err, Bool, List, [], ◌∷◌, length, drop, Float}
 use Rattle.common.specs.Answers.{refused, accepted, Outcome, outcome, line, refusing}
+use Rattle.common.specs.Refusals.{refusal}
 use Rattle.common.specs.declared.Answer.{Answer}
+use Rattle.common.specs.declared.refusals.Refusal.{Refusal}
 use Rattle.ticks.specs.declared.Tick.{Tick}
 use Rattle.ticks.specs.Play.{Mechanism, fit, after_fit, play_out}
 use Rattle.reader.specs.File.{module_of, sample_count, channel_count}
@@ -13,15 +15,21 @@ use Rattle.voice.specs.Voice.{samples_of}
 use Rattle.machine.specs.Machine.{mechanism}
 use Rattle.floats.specs.declared.Pair.{Pair}
 use Rattle.floats.specs.Frames.{unasked}
-use Rattle.float_machine.specs.declared.FloatMachine.{FloatMachine}
+use Rattle.float_machine.specs.Machine.{FloatMachine}
 use Rattle.float_machine.specs.Machine.{float_machine, floats_by}
-use Rattle.records.specs.Format.{keeps, Decoded, refusal, ticks, decode}
+use Rattle.records.specs.Format.{keeps, Decoded, ticks, decode}
+use Rattle.records.specs.Format.Decoded.{refusal as refused_at}
 use Rattle.board.specs.Board.{led_to}
 use Rattle.float_board.specs.declared.FloatAnswer.{FloatAnswer}
 
 -- an answer, and the record after the call
 abbrev pub float_answer : Answer → Pair → FloatAnswer
 float_answer answer pair = record { answer = answer; pair = pair }
+
+-- what a call came to: a refusal leaves the record
+abbrev pub floats_answered : Pair → Result FloatAnswer Refusal → FloatAnswer
+floats_answered pair (Ok a) = a
+floats_answered pair (Err e) = float_answer (refusal e) pair
 
 -- how the stream's ticks are played as floats
 abbrev pub floats_on : Bool → ℕ → (ℕ → Sample) → ℕ → Mechanism Float FloatMachine Tick
@@ -41,7 +49,7 @@ played_floats keeping channels samples first ts sides pair out =
 
 -- 21, 22, 28 and 23, where record and buffer stay; otherwise the stream's ticks
 unfoldable pub floats_board_by : Bool → ℕ → (ℕ → Sample) → ℕ → Decoded → ℕ → Pair → List Float → Outcome FloatAnswer Float
-floats_board_by keeping channels samples first (refusal number place) sides pair out = outcome (float_answer (refused number place) pair) out
+floats_board_by keeping channels samples first (refused_at number place) sides pair out = outcome (float_answer (refused number place) pair) out
 floats_board_by keeping channels samples first (ticks ts) sides pair out = played_floats keeping channels samples first ts sides pair out
 
 -- for samples to the last and so many channels; version 1 streams play by the old rule

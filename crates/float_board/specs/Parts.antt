@@ -12,7 +12,7 @@ use Rattle.reader.specs.Judge.{verdict}
 use Rattle.voice.specs.Voice.{samples_of}
 use Rattle.floats.specs.declared.Pair.{Pair}
 use Rattle.floats.specs.Frames.{unasked, floats_of}
-use Rattle.float_machine.specs.declared.FloatMachine.{FloatMachine}
+use Rattle.float_machine.specs.Machine.{FloatMachine}
 use Rattle.float_machine.specs.Beside.{same_numbers, same_machine, same_fit, same_out}
 use Rattle.records.specs.Format.{keeps, ticks, decode}
 use Rattle.board.specs.Counts.{stream_mechanism, stream_numbers}

@@ -24,11 +24,11 @@ module _ (bytes : List ℕ) (s : State) (n sides : ℕ) (pair : Pair) (out : Lis
   unfolding play_floats_of
   floats_refused e j = not_admitted bytes s _ _ _ e j _ refl
 
-  module _ (j : Judged (module_of bytes) s (accepted 0)) (m : Module) (h : m.file.now ≡ bytes) where
+  module _ (j : Judged (module_of bytes) s (accepted 0)) where
     pub floats_unasked : (e : Refusal) → Asked sides (Err e) → outcome (floats_answered s pair (Err e)) out ≡ play_floats_of bytes s n sides pair out
     unfolding play_floats_of
     floats_unasked e a = is_admitted bytes s _ _ _ j _ (line_given _ _ 24 0 _ [] _ a.0 (rw a.1))
 
-    pub floats_played : (asked : Sides) → Asked sides (Ok asked) → (r : FloatReply) (out' : List Float) → outcome r out' ≡ floats_from (as_module m) s n (count_of asked) pair out → outcome (floats_answered s pair (Ok r)) out' ≡ play_floats_of bytes s n sides pair out
+    pub floats_played : (m : Module) (h : m.file.now ≡ bytes) (asked : Sides) → Asked sides (Ok asked) → (r : FloatReply) (out' : List Float) → outcome r out' ≡ floats_from (as_module m) s n (count_of asked) pair out → outcome (floats_answered s pair (Ok r)) out' ≡ play_floats_of bytes s n sides pair out
     unfolding play_floats_of
-    floats_played asked a r out' e = is_admitted bytes s _ _ _ j _ (line_passed _ _ 24 0 _ [] _ (rw a (sides_asked asked)) (no_line _ _ _ (rw (module_read m bytes h, ← a) at e)))
+    floats_played m h asked a r out' e = is_admitted bytes s _ _ _ j _ (line_passed _ _ 24 0 _ [] _ (rw a (sides_asked asked)) (no_line _ _ _ (rw (module_read m bytes h, ← a) at e)))

@@ -62,7 +62,12 @@ impl<'a> Integers<'a> {
     {
         let begins = carried_at(self.machine.tempo, self.machine.remainder, tick.tempo);
         let frames = length_at(tick.tempo, begins);
-        mixing::pass_by(self.module, &mut self.machine.voices, &tick.commands, frames);
+        mixing::pass_by(
+            self.module,
+            &mut self.machine.voices,
+            &tick.commands,
+            frames,
+        );
         self.rest(tick.tempo, begins);
     }
 

@@ -30,4 +30,4 @@ returns-clause-calls c =
 pub returns-clause-agrees : goal.returns-clause-agrees
 returns-clause-agrees c =
     let h : outcome c.from-translated.result c.translate.new.room ≡ translate_of c.args.file.now c.args.ticks c.args.room.now = rw c.from-translated.ensures c.translate.ensures in
-    λ v few l. agreed _ _ _ _ _ _ _ _ _ _ _ _ h c.default-after.ensures (ap (λ (a : Answer). outcome (reply a c.play-played.new.state) c.play-played.new.out) c.into.ensures ∙ c.play-played.ensures) c.play_stream-streamed.ensures (λ i. (c.shared_slice_known-1.given i).fits) v few l
+    λ v few l. rw c.into-2.ensures (agreed _ _ _ _ _ _ _ _ _ _ _ _ h c.default-after.ensures (ap (λ (a : Answer). outcome (reply a c.play-played.new.state) c.play-played.new.out) c.into.ensures ∙ c.play-played.ensures) c.play_stream-streamed.ensures (λ i. (c.shared_slice_known-1.given i).fits) v few l)

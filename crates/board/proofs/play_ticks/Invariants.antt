@@ -11,5 +11,5 @@ invariant-loop-tick g l =
     record {
       turning : Turning y (s.state l.initial.sounder) (ticks_left l.fn.ticks) l.initial.out (s.state l.sounder) (ticks_left l.tick-iterator) l.out l.at l.count;
       same : s.way l.sounder ≡ y;
-      counted : s.counted l.sounder ≤ l.count
+      counted : s.counted l.sounder ≤ l.count;
     }

@@ -12,5 +12,5 @@ invariant-loop l =
     record {
       source : l.sounder.module.now ≡ l.m;
       keeping : l.sounder.keeps ≡ keeps s;
-      leading : Leading l.m (keeps s) (ticks_in (decode l.m.layout.samples l.m.layout.channels s)) l.sounder.machine (ticks_left l.ticks) l.counter
+      leading : Leading l.m (keeps s) (ticks_in (decode l.m.layout.samples l.m.layout.channels s)) l.sounder.machine (ticks_left l.ticks) l.counter;
     }

@@ -1,5 +1,0 @@
--- The fields are those of the definition.
-use Rattle.float_board.proofs.after_ticks.Goals as goal
-
-pub returns : goal.returns
-returns c = cc
