@@ -1,6 +1,6 @@
 -- A stream that is decoded record by record: what is left of it (`Left`), by the registers, the place and the number of records left.
 -- Assumes nothing.
-use Rattle.std.specs.Prelude.{ℕ, zero, suc, ◌+◌, ◌-◌, ◌≤◌, ◌<◌, ◌≡◌, true, false, not, cond, ◌||◌, List, [], ◌∷◌, length, ltb, eqb}
+use Rattle.std.specs.Prelude.{ℕ, zero, suc, ◌+◌, ◌-◌, ◌≤◌, ◌<◌, ◌≡◌, true, not, cond, ◌||◌, Ok, List, [], ◌∷◌, length, ltb, eqb}
 use Rattle.std.proofs.Math.Path.{refl, ap}
 use Rattle.std.proofs.Common.{sym, ◌∙◌, true≢false}
 use native.Mathlib.Omega.{arith}
@@ -11,40 +11,16 @@ use Rattle.common.specs.Answers.{accepted, refusing}
 use Rattle.ticks.specs.declared.Command.{Command}
 use Rattle.ticks.specs.declared.Tick.{Tick}
 use Rattle.ticks.specs.Legal.{LegalTick, LegalTicks, more}
-use Rattle.records.specs.Format.{version_place, least_place, known_version, version_of, stream_channels, tick_count, first_record, at_first, Read, bad, read, read_record, Decoded, refusal, ticks, with_tick, decode_records, decode_after, decode, short, read_by}
-use Rattle.records.specs.Reads.{on_either, on_good, passed, not-ticks, with_ticks, flag_read, flag_bad, flag_short}
+use Rattle.records.specs.Format.{version_place, least_place, known_version, version_of, stream_channels, tick_count, first_record, at_first, read, read_record, Decoded, refusal, ticks, with_tick, decode_records, decode_after, decode, read_by}
+use Rattle.records.specs.Reads.{on_either, on_good, passed, not-ticks, with_ticks}
 use Rattle.records.specs.Decoded.{stream_of_lem}
-use Rattle.decoder.specs.declared.Record.{Record}
-use Rattle.decoder.specs.Answers.{unread, as_record, answer_of}
+use Rattle.decoder.specs.declared.reading.Record.{Record}
+use Rattle.decoder.specs.Answers.{answer_of}
+use Rattle.decoder.specs.Results.{as_record, was_read}
 use Rattle.ticks.specs.Commands.{sounding_of}
 use Rattle.decoder.specs.Whole.{has_ticks, ticks_in, Whole}
 
--- ---- a record that was read
-module _ (registers : List Command) (at : ℕ) (x : Read Tick) (r : Record) (e : r ≡ as_record registers at x) where
-  pub record_read : r.ok ≡ true → x ≡ read r.tick r.next
-  unfolding as_record
-  record_read t =
-      let w = flag_read (λ (y : Record). y.ok) (λ (y : Record). y.short) _ _ _ x r e refl refl t in
-      w.is ∙ ap (λ (y : Record). read y.tick y.next) w.on
-
-  pub record_short : r.ok ≡ false → r.short ≡ true → x ≡ short
-  unfolding as_record
-  record_short = flag_short (λ (y : Record). y.ok) (λ (y : Record). y.short) _ _ _ x r e refl (λ t n. refl)
-
-  pub record_bad : r.ok ≡ false → r.short ≡ false → x ≡ bad
-  unfolding as_record
-  record_bad = flag_bad (λ (y : Record). y.ok) (λ (y : Record). y.short) _ _ _ x r e refl (λ t n. refl)
-
-  -- either of them is no record
-  pub record_unread : {B : Type 0} (instead : B) (rest : Tick → ℕ → B) → r.ok ≡ false → read_by instead instead x rest ≡ instead
-  unfolding as_record read_by
-  record_unread {B} instead rest t = go x e
-    where
-      go : (y : Read Tick) → r ≡ read_by (unread registers at false) (unread registers at true) y (λ u n. record { ok = true; short = false; tick = u; next = n }) → read_by instead instead y rest ≡ instead
-      go bad q = refl
-      go short q = refl
-      go (read u n) q = absurd (true≢false (sym (ap (λ (z : Record). z.ok) q) ∙ t))
-
+-- ---- the next record
 pub next_record : (last c : ℕ) (s : List ℕ) (n at : ℕ) (registers : List Command) → 0 < n
     → decode_records last c s n at registers ≡ read_by (refusal 23 at) (refusal 23 at) (read_record last c s at registers) (λ t p. with_tick t (decode_records last c s (n - 1) p t.commands))
 unfolding decode_records
@@ -134,18 +110,23 @@ pub record Next (last c : ℕ) (s : List ℕ) (n : ℕ) (registers : List Comman
   pub legal : LegalTick last (sounding_of registers) r.tick
   pub left : Left last c s n r.next r.tick.commands rest
 
+read_same : (r : Record) (t : Tick) (n : ℕ) → read r.tick r.next ≡ read t n → r ≡ record { tick = t; next = n }
+read_same r t n e =
+    let p : r.tick ≡ t = cc in
+    let q : r.next ≡ n = cc in
+    λ i. record { tick = p i; next = q i }
+
 first_legal : (last : ℕ) (soundings : List ℕ) (t : Tick) (ts : List Tick) → LegalTicks last soundings (t ∷ ts) → LegalTick last soundings t × LegalTicks last (sounding_of t.commands) ts
 first_legal last soundings t ts (more l ls) = (l, ls)
 
 module _ (last c : ℕ) (s : List ℕ) (n i at : ℕ) (registers : List Command) (ts : List Tick) (w : Left last c s (n - i) at registers ts) where
-  pub left_next : (r : Record) → i < n → r ≡ as_record registers at (read_record last c s at registers) → Next last c s (n - (i + 1)) registers ts r
-  unfolding as_record read_by
+  pub left_next : (r : Record) → i < n → Ok r ≡ as_record (read_record last c s at registers) → Next last c s (n - (i + 1)) registers ts r
   left_next r h e =
       let a = on_good (refusal 23 at) (read_record last c s at registers) (λ t p. with_tick t (decode_records last c s (n - i - 1) p t.commands)) (ticks ts) (not-ticks 23 at ts)
       (sym (next_record last c s (n - i) at registers (omega arith)) ∙ w.reads) in
       let f = with_ticks a.got (decode_records last c s (n - i - 1) a.next a.got.commands) ts a.on in
       let l = first_legal last (sounding_of registers) a.got f.others (rw f.all at w.legal) in
-      let y : r ≡ record { ok = true; short = false; tick = a.got; next = a.next } = e ∙ ap (as_record registers at) a.is in
+      let y : r ≡ record { tick = a.got; next = a.next } = read_same r a.got a.next (sym (was_read (read_record last c s at registers) r e) ∙ a.is) in
       let k : n - i - 1 ≡ n - (i + 1) = omega arith in
       record { rest = f.others; is = rw y f.all; legal = rw y l.0; left = rw y (record { reads = rw (← k) f.is; legal = l.1 }) }
 

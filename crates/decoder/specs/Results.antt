@@ -4,7 +4,7 @@ use Rattle.std.specs.Prelude.{ℕ, ◌≡◌, refl, List, ◌++◌, drop, Result
 use Rattle.std.proofs.Common.{sym, ap}
 use Rattle.ticks.specs.declared.Command.{Command}
 use Rattle.ticks.specs.declared.Tick.{Tick}
-use Rattle.records.specs.Format.{Read, bad, short, read}
+use Rattle.records.specs.Format.{Read, bad, short, read, read_by}
 use Rattle.decoder.specs.declared.reading.Record.{Record}
 use Rattle.decoder.specs.declared.reading.Unread.{Unread}
 use Rattle.decoder.specs.declared.reading.Unread.TheVariants.{Bad, Short}
@@ -40,6 +40,13 @@ module _ {A B : Type 0} (made : A → ℕ → B) where
   was_short bad e = absurd cc
   was_short short e = refl
   was_short (read a n) e = absurd cc
+
+-- nothing was read, so that nothing is read on
+pub was_unread : {A B C : Type 0} (made : A → ℕ → B) (x : Read A) (u : Unread) (instead : C) (rest : A → ℕ → C) → Err u ≡ as_result made x → read_by instead instead x rest ≡ instead
+unfolding as_result read_by
+was_unread made bad u instead rest e = refl
+was_unread made short u instead rest e = refl
+was_unread made (read a n) u instead rest e = absurd cc
 
 pub was_read : (x : Read Tick) (r : Record) → Ok r ≡ as_record x → x ≡ read r.tick r.next
 unfolding as_result
