@@ -1,8 +1,7 @@
 -- Laws of reading on: what is known where a test, a reading or a decoding came to something good.
 -- Assumes nothing.
 use Rattle.std.specs.Prelude.{ℕ, ◌≡◌, refl, Bool, true, false, cond, List, ◌∷◌}
-use Rattle.std.proofs.Common.{sym, ap, ◌∙◌, true≢false, arith}
-use Rattle.std.proofs.lemmas.Bool.{false≢true}
+use Rattle.std.proofs.Common.{arith}
 use Rattle.ticks.specs.declared.Tick.{Tick}
 use Rattle.records.specs.Format.{Read, bad, short, read, read_by, Decoded, refusal, ticks, with_tick}
 
@@ -66,16 +65,3 @@ pub with_ticks : (t : Tick) (d : Decoded) (ts : List Tick) → with_tick t d ≡
 unfolding with_tick
 with_ticks t (refusal number place) ts e = absurd (not-ticks number place ts e)
 with_ticks t (ticks us) ts e = record { others = us; is = refl; all = cc }
-
--- ---- a reading as a struct with two flags, of which a good one sets the first, and one that runs out the second
-module _ {A S : Type 0} (ok out : S → Bool) (x y : S) (made : A → ℕ → S) (r : Read A) (s : S) (e : s ≡ read_by x y r made) where
-  pub flag_read : ok x ≡ false → ok y ≡ false → ok s ≡ true → Went r made s
-  flag_read n m t = by_good x y r made s (λ q. false≢true (sym n ∙ ap ok q ∙ t)) (λ q. false≢true (sym m ∙ ap ok q ∙ t)) (sym e)
-
-  pub flag_short : out x ≡ false → ((z : A) (n : ℕ) → ok (made z n) ≡ true) → ok s ≡ false → out s ≡ true → r ≡ short
-  flag_short n g t u =
-      by_any (λ (w : S). s ≡ w → r ≡ short) x y r made (λ q p. absurd (true≢false (sym u ∙ ap out p ∙ n))) (λ q p. q) (λ z k q p. absurd (true≢false (sym (g z k) ∙ ap ok (sym p) ∙ t))) e
-
-  pub flag_bad : out y ≡ true → ((z : A) (n : ℕ) → ok (made z n) ≡ true) → ok s ≡ false → out s ≡ false → r ≡ bad
-  flag_bad n g t u =
-      by_any (λ (w : S). s ≡ w → r ≡ bad) x y r made (λ q p. q) (λ q p. absurd (true≢false (sym n ∙ ap out (sym p) ∙ u))) (λ z k q p. absurd (true≢false (sym (g z k) ∙ ap ok (sym p) ∙ t))) e
