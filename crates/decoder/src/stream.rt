@@ -8,7 +8,7 @@ ghost use Rattle.decoder.specs.Whole.{verdict_of, has_ticks, ticks_in, Whole};
 
 use crate::reading::{Record, Scope};
 use common::bytes::four;
-use common::limits::WIDTH;
+use common::limits::{WIDTH, is_between};
 use common::refusals::{Refusal, Rule};
 use records::{
     CHANNELS_PLACE, COUNT_PLACE, COUNTED_VERSION, FIRST_VERSION, LEAST_PLACE, OLD_CHANNELS,
@@ -50,11 +50,12 @@ fn shift(version: u8) -> usize
     usize::from(version >= COUNTED_VERSION)
 }
 
+// Whether a version is one that is read.
 #[tactic(auto, unfolding(records::specs::Format::known_version))]
-fn is_known(version: u8) -> bool
+pub fn is_known(version: u32) -> bool
     ensures { result ≡ known_version version }
 {
-    FIRST_VERSION <= version && version <= VERSION
+    is_between(u32::from(FIRST_VERSION), u32::from(VERSION), version)
 }
 
 impl<'a> Header<'a> {
@@ -146,7 +147,7 @@ impl<'a> Stream<'a> {
             return Err(Rule::StreamLength.at(bytes.len()));
         }
         let version = bytes[VERSION_PLACE];
-        if !is_known(version) {
+        if !is_known(u32::from(version)) {
             return Err(Rule::StreamVersion.at(VERSION_PLACE));
         }
         if bytes.len() < LEAST_PLACE + shift(version) {
