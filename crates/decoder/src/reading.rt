@@ -5,7 +5,7 @@ ghost use Rattle.records.specs.Legal.{legal_beside};
 ghost use Rattle.records.specs.Format.{held, period_at, start_at, spelled, read_body, read_channel, read_channels, read_record, unused_bits};
 ghost use Rattle.decoder.specs.Results.{as_command, as_commands, as_record};
 
-use common::bytes::{byte, word};
+use common::bytes::{byte, byte_or_0, word};
 use common::limits::{GREATEST_TEMPO, LEAST_TEMPO, LOUDEST, WIDTH, is_between, is_period};
 use records::{BODY_BYTES, HEAD_BYTES, START_PLACE, TEMPO_PLACE};
 use ticks::{Command, Tick};
@@ -58,11 +58,11 @@ fn spelled(bytes: &[u8], at: usize) -> Command
     ensures { result ≡ spelled bytes.now at }
 {
     Command {
-        sample: byte(bytes, at) as u8,
-        volume: byte(bytes, at + 1) as u8,
+        sample: byte_or_0(bytes, at),
+        volume: byte_or_0(bytes, at + 1),
         period: period_at(bytes, at + 2),
         start: start_at(bytes, at + START_PLACE),
-        offset: byte(bytes, at + 5) as u8,
+        offset: byte_or_0(bytes, at + 5),
     }
 }
 
@@ -115,7 +115,7 @@ impl Scope {
             return Err(Unread::Short);
         }
         let c = spelled(bytes, at);
-        if byte(bytes, at + START_PLACE) > 1 || !self.is_legal(register.sample, c) {
+        if byte_or_0(bytes, at + START_PLACE) > 1 || !self.is_legal(register.sample, c) {
             return Err(Unread::Bad);
         }
         if left < BODY_BYTES {
@@ -141,7 +141,8 @@ impl Scope {
         self.read_body(bytes, at, register)
     }
 
-    // The commands of the channels in use by a mask, before the registers of the others, and the place after them.
+    // The commands of the channels in use by a mask, before the registers of the others, and the place after them. Beside the place they are aligned in the
+    // result: from an odd byte on their copies would wait for two stores each.
     #[tactic(auto, using(crate::proofs::Readings::reading_none, crate::proofs::Readings::reading_more, crate::proofs::Readings::reading_unread, crate::proofs::Readings::reading_all))]
     fn read_channels(
         &self,
