@@ -1,25 +1,13 @@
 // An open header: the faults that its bytes show, and how it closes.
 ghost use Rattle.std.specs.Prelude.{◌≡◌, ◌≤◌};
-ghost use Rattle.records.specs.Format.{known_version};
 ghost use Rattle.arrival.specs.Arrive.{headed, shows_by, unknown, other, header_shows};
 ghost use Rattle.arrival.specs.Answers.{settled};
 
 use crate::Arrival;
 use common::bytes::four;
-use common::limits::is_between;
 use common::refusals::{Refusal, Rule};
+use decoder::stream::is_known;
 use records::{CHANNELS_PLACE, LEAST_PLACE, VERSION_PLACE};
-
-#[tactic(auto, unfolding(records::specs::Format::known_version))]
-pub(crate) fn known_version(version: u32) -> bool
-    ensures { result ≡ known_version version }
-{
-    is_between(
-        u32::from(records::FIRST_VERSION),
-        u32::from(records::VERSION),
-        version,
-    )
-}
 
 impl Arrival {
     // Whether the byte at a place of an open header is in, and isn't the one by which the declared end shows.
@@ -36,7 +24,7 @@ impl Arrival {
     fn is_unknown(&self, ended: bool) -> bool
         ensures { result ≡ unknown self.now.bytes self.now.kept ended }
     {
-        !known_version(u32::from(self.header().version())) && self.shows_by(VERSION_PLACE, ended)
+        !is_known(u32::from(self.header().version())) && self.shows_by(VERSION_PLACE, ended)
     }
 
     // Whether it is for another number of channels.

@@ -4,11 +4,11 @@ ghost use Rattle.records.specs.Format.{read_record};
 ghost use Rattle.arrival.specs.Arrive.{kept_bytes, taken, faulty, stated_channels, record_shows, rest_shows, shows, keeps, most_records, legal_arrival};
 ghost use Rattle.arrival.specs.Answers.{settled};
 
-use crate::header::known_version;
 use crate::{Arrival, KEPT_BYTES};
 use common::limits::WIDTH;
 use common::refusals::{Refusal, Rule};
 use decoder::reading::{Scope, Unread};
+use decoder::stream::is_known;
 use records::VERSION_PLACE;
 use ticks::Command;
 
@@ -72,7 +72,7 @@ impl Arrival {
             }
             return self.header_shows(scope.channels);
         }
-        if !known_version(self.version) {
+        if !is_known(self.version) {
             return Err(Rule::StreamVersion.at(VERSION_PLACE));
         }
         if self.stated_channels() as usize != scope.channels {
