@@ -3,7 +3,7 @@
 use Rattle.std.proofs.Common.{◌≡◌, ℕ, Bool, true, false, not, ◌&&◌, ltb, List, [], ℤ, sym, refl, ap, ◌∙◌, arith}
 use Rattle.laws.specs.Ranges.{all, all_from}
 use Rattle.reader.specs.Layouts.{LegalLayout, module_legal}
-use Rattle.common.specs.Answers.{Line, refused, accepted, outcome, refusing}
+use Rattle.common.specs.Answers.{refused, accepted, outcome, refusing}
 use Rattle.common.specs.AnswerLaws.{no_line, line_given, line_passed}
 use Rattle.common.specs.ByteLaws.{Bytes}
 use Rattle.common.specs.declared.Answer.{Answer}
@@ -23,10 +23,10 @@ use Rattle.sequencer.specs.Legal.{legal_song}
 use Rattle.voice.specs.Legal.{legal_voices}
 use Rattle.player.specs.declared.State.{State}
 use Rattle.player.specs.declared.Reply.{Reply}
-use Rattle.player.specs.State.{legal_state, state_lines, reply}
+use Rattle.player.specs.State.{legal_state, reply}
 use Rattle.player.specs.Play.{played_from, play_of}
-use Rattle.player.specs.Legal.{Judged, Playable}
-use Rattle.player.specs.Judging.{never_zero, refused_state, passed_state}
+use Rattle.player.specs.Legal.{Judged}
+use Rattle.player.specs.Judging.{never_zero, passed_state}
 
 -- ---- the test of a state
 pub state_tested : (layout : Layout) (bytes : List ℕ) (s : State) (positions : ℕ) (extents : List Extent) (a b c : Bool) → positions ≡ song_length (lent layout bytes) → extents ≡ extents_of (lent layout bytes) → a ≡ legal_song positions layout s.song → b ≡ legal_voices layout extents s.voices → c ≡ ltb s.remainder s.song.time.tempo → a && b && c ≡ legal_state (lent layout bytes) s
@@ -58,34 +58,11 @@ module _ (layout : Layout) (bytes : List ℕ) (s : State) (v : Answer) (ve : v �
 
 -- ---- a call's answer by the verdict, for the layout of every module
 module _ (layout : Layout) (bytes : List ℕ) (s : State) (v : Answer) (j : Judged (lent layout bytes) s v) (le : layout ≡ layout_of bytes) where
-  -- a refusal leaves the state
-  pub refused_reply : (work : Reply) (more : List Line) (r : Reply) → (v.number ≡ 0 → ⊥) → r ≡ reply (refused v.number v.place) s → r ≡ refusing (λ number place. reply (refused number place) s) work (state_lines (module_of bytes) s more)
-  refused_reply work more r h e = e ∙ refused_state layout bytes s v j le (λ number place. reply (refused number place) s) work more h
-
   -- ---- playing
   module _ (n : ℕ) (out : List ℤ) (r : Reply) where
-    pub play_refused : (v.number ≡ 0 → ⊥) → r ≡ reply (refused v.number v.place) s → outcome r out ≡ play_of bytes s n out
-    unfolding play_of
-    play_refused h e = ap (λ (x : Reply). outcome x out) e ∙ refused_state layout bytes s v j le (λ number place. outcome (reply (refused number place) s) out) (played_from (module_of bytes) s n out) [] h
-
     pub play_accepted : (out' : List ℤ) → v.number ≡ 0 → outcome r out' ≡ played_from (lent layout bytes) (record { song = s.song; voices = s.voices; remainder = s.remainder }) n out → outcome r out' ≡ play_of bytes s n out
     unfolding play_of refusing
     play_accepted out' z e = passed_state layout bytes s v j le (λ number place. outcome (reply (refused number place) s) out) (played_from (module_of bytes) s n out) [] z (outcome r out') (rw le at e)
-
--- the same, of a module and a state that are judged one after the other
-module _ (layout : Layout) (bytes : List ℕ) (s : State) (v : Answer) (ve : v ≡ verdict (lent layout bytes)) (le : layout ≡ layout_of bytes) (n : ℕ) (out : List ℤ) (r : Reply) where
-  pub play_module : (v.number ≡ 0 → ⊥) → r ≡ reply (refused v.number v.place) s → outcome r out ≡ play_of bytes s n out
-  play_module h e = play_refused layout bytes s v (judged_module layout bytes s v ve h) le n out r h e
-
-  module _ (z : v.number ≡ 0) (l : Bool) (q : l ≡ legal_state (lent layout bytes) s) where
-    pub play_illegal : l ≡ false → r ≡ reply (refused 14 0) s → outcome r out ≡ play_of bytes s n out
-    play_illegal h e = play_refused layout bytes s (refused 14 0) (judged_illegal layout bytes s v ve z l q (refused 14 0) h refl) le n out r (λ x. omega (arith, x)) e
-
-    pub play_legal : (out' : List ℤ) → LegalLayout layout → Bytes bytes → l ≡ true → outcome r out' ≡ played_from (lent layout bytes) (record { song = s.song; voices = s.voices; remainder = s.remainder }) n out → outcome r out' ≡ play_of bytes s n out
-    play_legal out' y b h e = play_accepted layout bytes s (accepted 0) (judged_legal layout bytes s v ve z l q (accepted 0) y b h refl) le n out r out' refl e
-
-pub legal_playable : (layout : Layout) (bytes : List ℕ) (s : State) (v : Answer) (l : Bool) → v ≡ verdict (lent layout bytes) → v.number ≡ 0 → l ≡ legal_state (lent layout bytes) s → l ≡ true → LegalLayout layout → Bytes bytes → Playable (lent layout bytes) (record { song = s.song; voices = s.voices; remainder = s.remainder })
-legal_playable layout bytes s v l ve z q h y b = record { layout = y; judged = accepted_by (lent layout bytes) v ve z; bytes = b; legal = sym q ∙ h }
 
 -- ---- a file and a state that are admitted
 module _ (bytes : List ℕ) (s : State) where

@@ -48,15 +48,6 @@ pub fn refuse(number: u32, place: usize, state: State) -> Reply
     }
 }
 
-fn accept(count: usize, state: State) -> Reply
-    ensures { result ≡ reply (accepted count) state }
-{
-    Reply {
-        answer: common::accept(count),
-        state: state,
-    }
-}
-
 // The fresh state.
 impl Default for State {
     ghost is_default = { λ state. state ≡ fresh_state };
