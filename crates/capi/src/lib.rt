@@ -198,7 +198,10 @@ pub extern "C" fn lampthistle_play_stream_from(
     ensures sounded { out.new ≡ (play_stream_from_of file.now stream.now from out.old).out }
 {
     let first = from as usize;
-    put_answer(board::play_stream_from(stream, file, first, out).into(), answer);
+    put_answer(
+        board::play_stream_from(stream, file, first, out).into(),
+        answer,
+    );
 }
 
 // Plays the largest number of whole ticks, up to `ticks`, whose numbers fit into out, as floats for one side or two.
