@@ -12,7 +12,7 @@ use Rattle.ticks.specs.declared.Tick.{Tick}
 use Rattle.ticks.specs.Playing.{Played}
 use Rattle.reader.specs.File.{Module as FileModule, module_of, sample_count, channel_count}
 use Rattle.reader.specs.Judge.{judge_of}
-use Rattle.reader.specs.Modules.{as_module, module_read, read_refused, read_passed}
+use Rattle.reader.specs.Modules.{as_module, read_refused, read_passed}
 use Rattle.reader.specs.declared.module.Module.{Module}
 use Rattle.voice.specs.Voice.{samples_of}
 use Rattle.machine.specs.declared.Machine.{Machine}
@@ -30,12 +30,12 @@ module _ (bytes s : List ℕ) (first : ℕ) (out : List ℤ) where
   unfolding play_stream_from_of
   stream_unread e j = read_refused _ _ bytes _ _ e j refl
 
-  module _ (m : Module) (f : m.file.now ≡ bytes) where
+  module _ (m : Module) (own : as_module m ≡ module_of bytes) where
     pub stream_refused : (last c : ℕ) → last ≡ m.layout.samples → c ≡ m.layout.channels → (e : Refusal) → refusal e ≡ answer_of (decode last c s) → outcome (answered (Err e)) out ≡ play_stream_from_of bytes s first out
     unfolding play_stream_from_of played_by answer_of
     stream_refused last c p q e x =
         let P : FileModule → Type 0 = λ v. outcome (refusal e) out ≡ played_by (keeps s) (channel_count v) (samples_of v) first (decode (sample_count v) (channel_count v) s) out in
-        read_passed _ _ bytes _ _ m f (no_line _ _ _ (subst P (module_read m bytes f) (go (decode m.layout.samples m.layout.channels s) (rw (p, q) at x))))
+        read_passed _ _ bytes _ _ m own (no_line _ _ _ (subst P own (go (decode m.layout.samples m.layout.channels s) (rw (p, q) at x))))
       where
         go : (d : Decoded) → refusal e ≡ answer_of d → outcome (refusal e) out ≡ played_by (keeps s) m.layout.channels (samples_of (as_module m)) first d out
         go (refused_at number place) y = rw y
@@ -45,4 +45,4 @@ module _ (bytes s : List ℕ) (first : ℕ) (out : List ℤ) where
     unfolding play_stream_from_of played_by played_ticks
     stream_played h w w' ts out' n l p =
         let P : FileModule → Type 0 = λ v. outcome (accepted n) out' ≡ played_by (keeps s) (channel_count v) (samples_of v) first (decode (sample_count v) (channel_count v) s) out in
-        read_passed _ _ bytes _ _ m f (no_line _ _ _ (subst P (module_read m bytes f) (rw (whole_ticks m.layout.samples m.layout.channels s h, p.count, p.cells, l.left, l.machine))))
+        read_passed _ _ bytes _ _ m own (no_line _ _ _ (subst P own (rw (whole_ticks m.layout.samples m.layout.channels s h, p.count, p.cells, l.left, l.machine))))

@@ -1,7 +1,7 @@
 -- What the calls go by: 1 to 9, then 14, then the bytes or the close. Laws over plain variables.
 -- Assumes nothing.
 use Prim.Native.Nat.{ℕ, ◌^◌, ◌<◌}
-use mathlib.Core.Path.{◌≡◌, refl, ap, ◌∙◌}
+use mathlib.Core.Path.{◌≡◌, refl, ap}
 use mathlib.Core.Bool.{Bool, true, false, cond}
 use mathlib.Core.List.{List}
 use native.Mathlib.Omega.{arith}
@@ -10,7 +10,7 @@ use Rattle.common.specs.Answers.{accepted, outcome}
 use Rattle.common.specs.Refusals.{number_of, refusal}
 use Rattle.common.specs.RefusalLaws.{refused_by_a_rule}
 use Rattle.common.specs.declared.refusals.Refusal.{Refusal}
-use Rattle.reader.specs.File.{lent, layout_of}
+use Rattle.reader.specs.File.{Module, lent, layout_of, module_of}
 use Rattle.reader.specs.Judge.{judge_of}
 use Rattle.reader.specs.Modules.{as_module, read_refused}
 use Rattle.reader.specs.declared.module.Module.{Module as ReadModule}
@@ -43,9 +43,12 @@ module _ (file : List ℕ) (b : Board) (e : Refusal) (q : judge_of file ≡ refu
   close_unread = read_refused (refused_board b) _ file _ _ e q refl
 
 -- ---- a module
-module _ (file : List ℕ) (m : ReadModule) (fe : m.file.now ≡ file) (b : Board) where
+module _ (file : List ℕ) (m : ReadModule) (own : as_module m ≡ module_of file) (b : Board) where
+  fe : m.file.now ≡ file
+  fe = ap (λ (x : Module). x.bytes) own
+
   le : m.layout ≡ layout_of file
-  le = m.tagged ∙ ap layout_of fe
+  le = ap (λ (x : Module). x.layout) own
 
   -- a board that is refused
   module _ (e : Refusal) (j : Judged (as_module m) b (refusal e)) where

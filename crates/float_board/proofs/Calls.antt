@@ -13,7 +13,7 @@ use Rattle.ticks.specs.declared.Tick.{Tick}
 use Rattle.ticks.specs.Playing.{Played}
 use Rattle.reader.specs.File.{Module as FileModule, module_of, sample_count, channel_count}
 use Rattle.reader.specs.Judge.{judge_of}
-use Rattle.reader.specs.Modules.{as_module, module_read, read_refused, read_passed}
+use Rattle.reader.specs.Modules.{as_module, read_refused, read_passed}
 use Rattle.reader.specs.declared.module.Module.{Module}
 use Rattle.voice.specs.Voice.{samples_of}
 use Rattle.machine.specs.declared.Machine.{Machine}
@@ -35,16 +35,16 @@ module _ (bytes s : List ℕ) (first : ℕ) (sides : ℕ) (pair : Pair) (out : L
   unfolding play_stream_floats_from_of
   stream_unread e j = read_refused _ _ bytes _ _ e j refl
 
-  module _ (m : Module) (f : m.file.now ≡ bytes) where
+  module _ (m : Module) (own : as_module m ≡ module_of bytes) where
     pub stream_unasked : (e : Refusal) → Asked sides (Err e) → outcome (floats_answered pair (Err e)) out ≡ play_stream_floats_from_of bytes s first sides pair out
     unfolding play_stream_floats_from_of
-    stream_unasked e a = read_passed _ _ bytes _ _ m f (line_given _ _ 24 0 _ [] _ a.0 (rw a.1))
+    stream_unasked e a = read_passed _ _ bytes _ _ m own (line_given _ _ 24 0 _ [] _ a.0 (rw a.1))
 
     pub stream_refused : (asked : Sides) → Asked sides (Ok asked) → (last c : ℕ) → last ≡ m.layout.samples → c ≡ m.layout.channels → (e : Refusal) → refusal e ≡ answer_of (decode last c s) → outcome (floats_answered pair (Err e)) out ≡ play_stream_floats_from_of bytes s first sides pair out
     unfolding play_stream_floats_from_of floats_board_by answer_of
     stream_refused asked a last c p q e x =
         let P : FileModule → Type 0 = λ v. outcome (float_answer (refusal e) pair) out ≡ floats_board_by (keeps s) (channel_count v) (samples_of v) first (decode (sample_count v) (channel_count v) s) sides pair out in
-        read_passed _ _ bytes _ _ m f (line_passed _ _ 24 0 _ [] _ (rw a (sides_asked asked)) (no_line _ _ _ (subst P (module_read m bytes f) (go (decode m.layout.samples m.layout.channels s) (rw (p, q) at x)))))
+        read_passed _ _ bytes _ _ m own (line_passed _ _ 24 0 _ [] _ (rw a (sides_asked asked)) (no_line _ _ _ (subst P own (go (decode m.layout.samples m.layout.channels s) (rw (p, q) at x)))))
       where
         go : (d : Decoded) → refusal e ≡ answer_of d → outcome (float_answer (refusal e) pair) out ≡ floats_board_by (keeps s) m.layout.channels (samples_of (as_module m)) first d sides pair out
         go (refused_at number place) y = rw y
@@ -54,4 +54,4 @@ module _ (bytes s : List ℕ) (first : ℕ) (sides : ℕ) (pair : Pair) (out : L
     unfolding play_stream_floats_from_of floats_board_by played_floats
     stream_played asked a h w w' ts out' n l p =
         let P : FileModule → Type 0 = λ v. outcome (float_answer (accepted n) w'.last) out' ≡ floats_board_by (keeps s) (channel_count v) (samples_of v) first (decode (sample_count v) (channel_count v) s) sides pair out in
-        read_passed _ _ bytes _ _ m f (line_passed _ _ 24 0 _ [] _ (rw a (sides_asked asked)) (no_line _ _ _ (subst P (module_read m bytes f) (rw (whole_ticks m.layout.samples m.layout.channels s h, a, p.count, ap (λ (x : FloatMachine). x.last) p.state, p.cells, l.left, l.machine)))))
+        read_passed _ _ bytes _ _ m own (line_passed _ _ 24 0 _ [] _ (rw a (sides_asked asked)) (no_line _ _ _ (subst P own (rw (whole_ticks m.layout.samples m.layout.channels s h, a, p.count, ap (λ (x : FloatMachine). x.last) p.state, p.cells, l.left, l.machine)))))

@@ -8,7 +8,7 @@ use Rattle.common.specs.AnswerLaws.{no_line, line_given, line_passed}
 use Rattle.common.specs.Refusals.{refusal}
 use Rattle.common.specs.declared.refusals.Refusal.{Refusal}
 use Rattle.reader.specs.File.{module_of}
-use Rattle.reader.specs.Modules.{as_module, module_read}
+use Rattle.reader.specs.Modules.{as_module}
 use Rattle.reader.specs.declared.module.Module.{Module}
 use Rattle.floats.specs.declared.Pair.{Pair}
 use Rattle.floats.specs.declared.Sides.{Sides}
@@ -29,6 +29,6 @@ module _ (bytes : List ℕ) (s : State) (n sides : ℕ) (pair : Pair) (out : Lis
     unfolding play_floats_of
     floats_unasked e a = is_admitted bytes s _ _ _ j _ (line_given _ _ 24 0 _ [] _ a.0 (rw a.1))
 
-    pub floats_played : (m : Module) (h : m.file.now ≡ bytes) (asked : Sides) → Asked sides (Ok asked) → (r : FloatReply) (out' : List Float) → outcome r out' ≡ floats_from (as_module m) s n (count_of asked) pair out → outcome (floats_answered s pair (Ok r)) out' ≡ play_floats_of bytes s n sides pair out
+    pub floats_played : (m : Module) (own : as_module m ≡ module_of bytes) (asked : Sides) → Asked sides (Ok asked) → (r : FloatReply) (out' : List Float) → outcome r out' ≡ floats_from (as_module m) s n (count_of asked) pair out → outcome (floats_answered s pair (Ok r)) out' ≡ play_floats_of bytes s n sides pair out
     unfolding play_floats_of
-    floats_played m h asked a r out' e = is_admitted bytes s _ _ _ j _ (line_passed _ _ 24 0 _ [] _ (rw a (sides_asked asked)) (no_line _ _ _ (rw (module_read m bytes h, ← a) at e)))
+    floats_played m own asked a r out' e = is_admitted bytes s _ _ _ j _ (line_passed _ _ 24 0 _ [] _ (rw a (sides_asked asked)) (no_line _ _ _ (rw (own, ← a) at e)))

@@ -7,7 +7,7 @@ use Rattle.common.specs.Refusals.{number_of, refusal}
 use Rattle.common.specs.RefusalLaws.{refused_by_a_rule}
 use Rattle.common.specs.declared.refusals.Refusal.{Refusal}
 use Rattle.reader.specs.File.{Module, lent, layout_of, module_of, song_length}
-use Rattle.reader.specs.Modules.{as_module, module_read}
+use Rattle.reader.specs.Modules.{as_module}
 use Rattle.reader.specs.declared.Layout.{Layout}
 use Rattle.reader.specs.declared.module.Module.{Module as ReadModule}
 use Rattle.voice.specs.declared.quiet.Cause.{Cause}
@@ -34,9 +34,9 @@ module _ (bytes : List ℕ) (s : State) {A : Type 0} (refuse : ℕ → ℕ → A
   is_admitted j x q = passed_state (layout_of bytes) bytes s (accepted 0) j refl refuse work more refl x q
 
 -- ---- by the module that was read
-module _ (bytes : List ℕ) (s : State) (j : Judged (module_of bytes) s (accepted 0)) (m : ReadModule) (me : m.file.now ≡ bytes) where
+module _ (bytes : List ℕ) (s : State) (j : Judged (module_of bytes) s (accepted 0)) (m : ReadModule) (own : as_module m ≡ module_of bytes) where
   positions_read : m.positions ≡ song_length (module_of bytes)
-  positions_read = m.long ∙ ap song_length (module_read m bytes me)
+  positions_read = m.long ∙ ap song_length own
 
   pub touch_admitted : (page made position : ℕ) (r : Reply) → r ≡ touch_from m.positions s page made position → r ≡ touch_of bytes s page made position
   touch_admitted = touch_passed (layout_of bytes) bytes s (accepted 0) j refl refl m.positions positions_read
@@ -45,18 +45,18 @@ module _ (bytes : List ℕ) (s : State) (j : Judged (module_of bytes) s (accepte
   burst_admitted b answers r = burst_passed (layout_of bytes) bytes s (accepted 0) j refl b answers r refl m.positions positions_read
 
   pub admitted_playable : Playable (as_module m) (record { song = s.song; voices = s.voices; remainder = s.remainder })
-  admitted_playable = subst (λ (x : Module). Playable x (record { song = s.song; voices = s.voices; remainder = s.remainder })) (sym (module_read m bytes me)) (j.playable refl)
+  admitted_playable = subst (λ (x : Module). Playable x (record { song = s.song; voices = s.voices; remainder = s.remainder })) (sym own) (j.playable refl)
 
   pub play_admitted : (n : ℕ) (out : List ℤ) (r : Reply) (out' : List ℤ) → outcome r out' ≡ played_from (as_module m) (record { song = s.song; voices = s.voices; remainder = s.remainder }) n out → outcome (reply (accepted r.answer.count) r.state) out' ≡ play_of bytes s n out
   unfolding played_from
   play_admitted n out r out' e =
       let q : r ≡ reply (accepted r.answer.count) r.state = rw (ap (λ (o : Outcome Reply ℤ). o.reply) e) in
       play_accepted (layout_of bytes) bytes s (accepted 0) j refl n out (reply (accepted r.answer.count) r.state) out' refl
-      (ap (λ (x : Reply). outcome x out') (sym q) ∙ e ∙ ap (λ (x : Module). played_from x (record { song = s.song; voices = s.voices; remainder = s.remainder }) n out) (module_read m bytes me))
+      (ap (λ (x : Reply). outcome x out') (sym q) ∙ e ∙ ap (λ (x : Module). played_from x (record { song = s.song; voices = s.voices; remainder = s.remainder }) n out) own)
 
   -- ---- why a channel is quiet
   layout_read : m.layout ≡ layout_of bytes
-  layout_read = m.tagged ∙ ap layout_of me
+  layout_read = ap (λ (x : Module). x.layout) own
 
   judged_here : Judged (lent m.layout bytes) s (accepted 0)
   judged_here = subst (λ (l : Layout). Judged (lent l bytes) s (accepted 0)) (sym layout_read) j
@@ -72,4 +72,4 @@ module _ (bytes : List ℕ) (s : State) (j : Judged (module_of bytes) s (accepte
     channel_past = why_past m.layout bytes s channel (accepted 0) judged_here layout_read refl
 
     pub channel_quiet : (channel ≡ 0 → ⊥) → channel - 1 < m.layout.channels → (c : Cause) → c ≡ voice_cause (as_module m) (get_or s.voices (channel - 1) blank) → Because c ≡ why_quiet_of bytes s channel
-    channel_quiet n h c e = why_because m.layout bytes s channel (accepted 0) judged_here layout_read refl n h c (e ∙ ap (λ (xs : List ℕ). voice_cause (lent m.layout xs) (get_or s.voices (channel - 1) blank)) me)
+    channel_quiet n h c e = why_because m.layout bytes s channel (accepted 0) judged_here layout_read refl n h c (e ∙ ap (λ (xs : List ℕ). voice_cause (lent m.layout xs) (get_or s.voices (channel - 1) blank)) (ap (λ (x : Module). x.bytes) own))

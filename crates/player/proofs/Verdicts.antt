@@ -1,6 +1,6 @@
 -- What the calls go by: 1 to 9, then 14, then a call's own lines. Laws over plain variables.
 -- Assumes nothing.
-use Rattle.std.proofs.Common.{◌≡◌, ℕ, Bool, true, false, not, ◌&&◌, ltb, List, [], ℤ, sym, refl, ap, ◌∙◌, arith}
+use Rattle.std.proofs.Common.{◌≡◌, ℕ, Bool, true, false, not, ◌&&◌, ltb, List, [], ℤ, sym, refl, ap, ◌∙◌, subst, arith}
 use Rattle.laws.specs.Ranges.{all, all_from}
 use Rattle.reader.specs.Layouts.{LegalLayout, module_legal}
 use Rattle.common.specs.Answers.{refused, accepted, outcome, refusing}
@@ -13,7 +13,7 @@ use Rattle.common.specs.Refusals.{refusal}
 use Rattle.common.specs.RefusalLaws.{refused_by_a_rule}
 use Rattle.reader.specs.File.{Module, lent, layout_of, module_of, song_length}
 use Rattle.reader.specs.Judge.{verdict, judge_of}
-use Rattle.reader.specs.Modules.{as_module, module_read}
+use Rattle.reader.specs.Modules.{as_module}
 use Rattle.reader.specs.declared.module.Module.{Module as ReadModule}
 use Rattle.reader.specs.Accept.{verdict_answer, accepted_by, module_given, module_passed}
 use Rattle.reader.specs.Samples.{extents_of}
@@ -70,18 +70,18 @@ module _ (bytes : List ℕ) (s : State) where
   unfolding judge_of
   admit_refused e j = judged_module (layout_of bytes) bytes s (refusal e) (sym j) (refused_by_a_rule e.rule)
 
-  module _ (m : ReadModule) (me : m.file.now ≡ bytes) (l : Bool) (le : l ≡ legal_state (as_module m) s) where
+  module _ (m : ReadModule) (own : as_module m ≡ module_of bytes) (l : Bool) (le : l ≡ legal_state (as_module m) s) where
     here : Module
     here = module_of bytes
 
     legal_here : l ≡ legal_state (module_of bytes) s
-    legal_here = rw (← module_read m bytes me) le
+    legal_here = rw (← own) le
 
     zero_here : (verdict (module_of bytes)).number ≡ 0
-    zero_here = rw (← module_read m bytes me) m.judged
+    zero_here = rw (← own) m.judged
 
     bytes_here : Bytes bytes
-    bytes_here = rw (← me) m.bytes
+    bytes_here = subst Bytes (ap (λ (x : Module). x.bytes) own) m.bytes
 
     pub admit_legal : l ≡ true → Judged (module_of bytes) s (accepted 0)
     admit_legal h = judged_legal (layout_of bytes) bytes s (verdict (module_of bytes)) refl zero_here l legal_here (accepted 0) (module_legal bytes) bytes_here h refl

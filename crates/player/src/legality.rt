@@ -23,6 +23,7 @@ fn is_legal(m: &Module, state: &State) -> bool
 pub fn admit<'a>(file: &'a [u8], state: &State) -> Result<Module<'a>, Refusal>
     ensures judged { Judged (module_of file.now) state.now (admitted result) }
     ensures lent { IfOk result (λ m. m.file.now ≡ file.now) }
+    ensures own { IfOk result (λ m. as_module m ≡ module_of file.now) }
 {
     let module = Module::read(file)?;
     if is_legal(&module, state) {

@@ -7,7 +7,7 @@ use Rattle.common.specs.declared.refusals.Refusal.{Refusal}
 use Rattle.common.specs.Answers.{Line, refusing}
 use Rattle.common.specs.Refusals.{number_of, refusal}
 use Rattle.common.specs.RefusalLaws.{refused_by_a_rule}
-use Rattle.reader.specs.File.{Module, lent, module_of}
+use Rattle.reader.specs.File.{Module, lent, layout_of, module_of}
 use Rattle.reader.specs.Judge.{judge_of, module_line}
 use Rattle.reader.specs.Accept.{module_given, module_passed}
 use Rattle.reader.specs.declared.headed.Headed.{Headed}
@@ -21,9 +21,9 @@ as_headed h = lent h.layout h.file.now
 abbrev pub as_module : ReadModule → Module
 as_module m = lent m.layout m.file.now
 
--- which is the file's own module
-pub module_read : (m : ReadModule) (bytes : List ℕ) → m.file.now ≡ bytes → as_module m ≡ module_of bytes
-module_read m bytes e = rw (m.tagged, e)
+-- which is the file's own module, if it was read by the file's own layout
+pub module_read : (m : ReadModule) (bytes : List ℕ) → m.file.now ≡ bytes → m.layout ≡ layout_of bytes → as_module m ≡ module_of bytes
+module_read m bytes e l = rw (l, e)
 
 -- ---- the line of a call that is lent a module
 module _ {A : Type 0} (refuse : ℕ → ℕ → A) (work : A) (bytes : List ℕ) (more : List Line) (x : A) where
@@ -35,5 +35,5 @@ module _ {A : Type 0} (refuse : ℕ → ℕ → A) (work : A) (bytes : List ℕ)
       (rw j q)
 
   -- one that was leaves the lines that follow
-  pub read_passed : (m : ReadModule) → m.file.now ≡ bytes → x ≡ refusing refuse work more → x ≡ refusing refuse work (module_line (module_of bytes) ∷ more)
-  read_passed m e q = module_passed refuse work (module_of bytes) more x (rw (← module_read m bytes e) m.judged) q
+  pub read_passed : (m : ReadModule) → as_module m ≡ module_of bytes → x ≡ refusing refuse work more → x ≡ refusing refuse work (module_line (module_of bytes) ∷ more)
+  read_passed m own q = module_passed refuse work (module_of bytes) more x (rw (← own) m.judged) q

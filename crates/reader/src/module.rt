@@ -1,7 +1,7 @@
 // A module: a file that was judged, beside its layout, its song length and the extents of its samples.
 ghost use Rattle.std.specs.Prelude.{◌≡◌};
 ghost use Rattle.common.specs.ByteLaws.{Bytes};
-ghost use Rattle.reader.specs.File.{lent, layout_of, song_length};
+ghost use Rattle.reader.specs.File.{lent, module_of, song_length};
 ghost use Rattle.reader.specs.Judge.{verdict};
 ghost use Rattle.reader.specs.Layouts.{LegalLayout};
 ghost use Rattle.reader.specs.Samples.{extents_of};
@@ -13,14 +13,13 @@ use crate::{Extent, Layout};
 use common::limits::SAMPLE_NUMBERS;
 use common::refusals::Refusal;
 
-// An accepted file. Its layout is the one that its tag names, and `positions` is its song length.
+// A file that was accepted by its layout. `positions` is its song length.
 #[derive(Drop)]
 pub struct Module<'a> {
     pub file: &'a [u8],
     pub layout: Layout,
     pub positions: u32,
     pub extents: [Extent; SAMPLE_NUMBERS],
-    pub ghost tagged: { layout ≡ layout_of file.now },
     pub ghost legal: { LegalLayout layout },
     pub ghost judged: { (verdict (lent layout file.now)).number ≡ 0 },
     pub ghost bytes: { Bytes file.now },
@@ -36,10 +35,11 @@ impl<'a> Module<'a> {
     ghost use Rattle.reader.specs.Judge.{judge_of};
     ghost use Rattle.reader.specs.Modules.{as_module};
 
-    // The file as a module, or the first refusal of the table, with its place.
+    // The file as a module, by the layout that its tag names, or the first refusal of the table, with its place.
     #[tactic(auto, unfolding(crate::specs::Judge::judge_of), using(crate::proofs::Extents::accepted_long))]
     pub fn read(file: &'a [u8]) -> Result<Module<'a>, Refusal>
         ensures accepted { IfOk result (λ m. m.file.now ≡ file.now) }
+        ensures own { IfOk result (λ m. as_module m ≡ module_of file.now) }
         ensures refused { IfErr result (λ e. judge_of file.now ≡ refusal e) }
     {
         let layout = layout_of(file);

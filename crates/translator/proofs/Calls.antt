@@ -21,7 +21,7 @@ use Rattle.ticks.specs.Play.{over}
 use Rattle.reader.specs.declared.Layout.{Layout}
 use Rattle.reader.specs.File.{Module, lent, module_of, channel_count}
 use Rattle.reader.specs.Judge.{judge_of}
-use Rattle.reader.specs.Modules.{as_module, module_read, read_refused, read_passed}
+use Rattle.reader.specs.Modules.{as_module, read_refused, read_passed}
 use Rattle.reader.specs.declared.module.Module.{Module as ReadModule}
 use Rattle.sequencer.specs.Songs.{fresh_song, fresh_sounding}
 use Rattle.sequencer.specs.RunLaws.{length-ticks}
@@ -91,20 +91,20 @@ module _ (bytes : List ℕ) (n : ℕ) (room : List ℕ) where
   unfolding translate_of
   translate_refused e j = read_refused _ _ bytes _ (outcome (refusal e) room) e j refl
 
-  module _ (m : ReadModule) (q : m.file.now ≡ bytes) where
+  module _ (m : ReadModule) (own : as_module m ≡ module_of bytes) where
     -- 11
     pub translate_many : (e : Refusal) → most_ticks < n → e ≡ record { rule = TickCount; place = 0 } → outcome (refusal e) room ≡ translate_of bytes n room
     unfolding translate_of
-    translate_many e h k = rw k (read_passed _ _ bytes _ _ m q (line_given _ _ 11 0 _ _ _ (lt-ltb most_ticks n h) refl))
+    translate_many e h k = rw k (read_passed _ _ bytes _ _ m own (line_given _ _ 11 0 _ _ _ (lt-ltb most_ticks n h) refl))
 
     module _ (few : n ≤ most_ticks) (len : ℕ) (l : Asked (as_module m) n (length room) len) where
       -- 12
       pub translate_short : (e : Refusal) → length room < len → e ≡ record { rule = StreamRoom; place = len } → outcome (refusal e) room ≡ translate_of bytes n room
       unfolding translate_of
       translate_short e h k =
-          let s : len ≡ length (stream_of (module_of bytes) n) = l.short h ∙ ap (λ (k : Module). length (stream_of k n)) (module_read m bytes q) in
+          let s : len ≡ length (stream_of (module_of bytes) n) = l.short h ∙ ap (λ (k : Module). length (stream_of k n)) own in
           rw (k, s)
-          (read_passed _ _ bytes _ _ m q
+          (read_passed _ _ bytes _ _ m own
           (line_passed _ _ 11 0 _ _ _ (le-ltb most_ticks n few)
           (line_given _ _ 12 _ _ [] _ (lt-ltb (length room) (length (stream_of (module_of bytes) n)) (rw s at h)) refl)))
 
@@ -113,8 +113,7 @@ module _ (bytes : List ℕ) (n : ℕ) (room : List ℕ) where
 
       pub translate_all : len ≤ length room → (k : ℕ) (room' : List ℕ) → outcome (accepted k) room' ≡ written (as_module m) n room → outcome (accepted k) room' ≡ translate_of bytes n room
       translate_all h k room' o =
-          let e = module_read m bytes q in
-          let f : length (stream_of (module_of bytes) n) ≤ length room = omega (arith, translate_fits h, ap (λ (k : Module). length (stream_of k n)) e) in
-          o ∙ ap (λ (k : Module). written k n room) e ∙ sym (translated bytes n room (rw (← e) m.judged) few f)
+          let f : length (stream_of (module_of bytes) n) ≤ length room = omega (arith, translate_fits h, ap (λ (k : Module). length (stream_of k n)) own) in
+          o ∙ ap (λ (k : Module). written k n room) own ∙ sym (translated bytes n room (rw (← own) m.judged) few f)
 
 pub ruleset call_laws = (translate_refused, translate_many, translate_short, translate_fits, translate_all)

@@ -8,7 +8,7 @@ pub returns-in_err-module : goal.returns-in_err-module
 returns-in_err-module c = search (stream_unread, rules)
 
 pub returns-in_err-stream : goal.returns-in_err-stream
-returns-in_err-stream c = search (stream_refused c.args.file.now c.args.stream.now c.args.first c.args.out.now c.in_ok-module.module c.in_ok-module.ensures.accepted _ _ c.scope.ensures.last c.scope.ensures.channels, rules)
+returns-in_err-stream c = search (stream_refused c.args.file.now c.args.stream.now c.args.first c.args.out.now c.in_ok-module.module c.in_ok-module.ensures.own _ _ c.scope.ensures.last c.scope.ensures.channels, rules)
 
 pub play_ticks-requires-clause-going : goal.play_ticks-requires-clause-going
 play_ticks-requires-clause-going c = rw c.lead.ensures.module c.lead.ensures.led.going
@@ -20,4 +20,4 @@ pub returns : goal.returns
 returns c =
     let f = c.in_ok-stream.ensures.its in
     let led = rw f.1 at c.lead.ensures.led in
-    stream_played _ _ _ _ c.in_ok-module.module c.in_ok-module.ensures.accepted (rw (← c.scope.ensures.last, ← c.scope.ensures.channels, ← f.0, ← f.1) c.in_ok-stream.stream.whole) _ _ _ _ _ led (rw (c.lead.ensures.module, c.lead.ensures.keeps, f.1) at c.play_ticks.ensures)
+    stream_played _ _ _ _ c.in_ok-module.module c.in_ok-module.ensures.own (rw (← c.scope.ensures.last, ← c.scope.ensures.channels, ← f.0, ← f.1) c.in_ok-stream.stream.whole) _ _ _ _ _ led (rw (c.lead.ensures.module, c.lead.ensures.keeps, f.1) at c.play_ticks.ensures)

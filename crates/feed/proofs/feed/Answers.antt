@@ -8,10 +8,10 @@ pub returns-in_err-module : goal.returns-in_err-module
 returns-in_err-module c = let p = err_from_is_err_and c.from_residual.result c.from_residual.ensures.1 in rw (p.1, p.2) (feed_unread c.args.file.now c.args.board c.in_err-module.field-0.0 c.in_err-module.ensures.refused c.args.bytes.now c.args.out.now)
 
 pub returns-in_err-feeding : goal.returns-in_err-feeding
-returns-in_err-feeding c = let p = err_from_is_err_and c.from_residual-in_err-feeding.result c.from_residual-in_err-feeding.ensures.1 in rw (p.1, p.2) (feed_refused c.args.file.now c.in_ok-module.module c.in_ok-module.ensures.accepted c.args.board c.in_err-feeding.field-0.0 c.in_err-feeding.ensures.judged c.args.bytes.now c.args.out.now)
+returns-in_err-feeding c = let p = err_from_is_err_and c.from_residual-in_err-feeding.result c.from_residual-in_err-feeding.ensures.1 in rw (p.1, p.2) (feed_refused c.args.file.now c.in_ok-module.module c.in_ok-module.ensures.own c.args.board c.in_err-feeding.field-0.0 c.in_err-feeding.ensures.judged c.args.bytes.now c.args.out.now)
 
 pub feed-requires : goal.feed-requires
-feed-requires c = let h = held_few c.args.file.now c.in_ok-module.module c.in_ok-module.ensures.accepted c.args.board c.in_ok-feeding.ensures.judged _ c.in_ok-feeding.ensures.its.0 _ c.in_ok-feeding.ensures.its.1 in omega arith
+feed-requires c = let h = held_few c.args.file.now c.in_ok-module.module c.in_ok-module.ensures.own c.args.board c.in_ok-feeding.ensures.judged _ c.in_ok-feeding.ensures.its.0 _ c.in_ok-feeding.ensures.its.1 in omega arith
 
 pub returns : goal.returns
-returns c = feed_fed c.args.file.now c.in_ok-module.module c.in_ok-module.ensures.accepted c.args.board c.in_ok-feeding.ensures.judged _ c.in_ok-feeding.ensures.its.0 _ c.in_ok-feeding.ensures.its.1 c.args.bytes.now c.args.out.now _ _ c.feed.ensures
+returns c = feed_fed c.args.file.now c.in_ok-module.module c.in_ok-module.ensures.own c.args.board c.in_ok-feeding.ensures.judged _ c.in_ok-feeding.ensures.its.0 _ c.in_ok-feeding.ensures.its.1 c.args.bytes.now c.args.out.now _ _ c.feed.ensures

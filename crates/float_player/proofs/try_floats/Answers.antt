@@ -11,7 +11,7 @@ pub returns-in_err-sides : goal.returns-in_err-sides
 returns-in_err-sides c = search (floats_unasked, rules)
 
 pub play_ticks-requires : goal.play_ticks-requires
-play_ticks-requires c = (admitted_playable _ _ c.in_ok-module.ensures.judged c.in_ok-module.module c.in_ok-module.ensures.lent).legal
+play_ticks-requires c = (admitted_playable _ _ c.in_ok-module.ensures.judged c.in_ok-module.module c.in_ok-module.ensures.own).legal
 
 pub returns : goal.returns
-returns c = floats_played _ _ _ _ _ _ c.in_ok-module.ensures.judged c.in_ok-module.module c.in_ok-module.ensures.lent c.in_ok-sides.sides c.in_ok-sides.ensures _ _ c.play_ticks.ensures
+returns c = floats_played _ _ _ _ _ _ c.in_ok-module.ensures.judged c.in_ok-module.module c.in_ok-module.ensures.own c.in_ok-sides.sides c.in_ok-sides.ensures _ _ c.play_ticks.ensures

@@ -9,7 +9,7 @@ unfolding play_of
 returns-in_err-module c = search (not_admitted, rules)
 
 pub play_ticks-played-requires : goal.play_ticks-played-requires
-play_ticks-played-requires c = (admitted_playable _ _ c.in_ok-module.ensures.judged c.in_ok-module.module c.in_ok-module.ensures.lent).legal
+play_ticks-played-requires c = (admitted_playable _ _ c.in_ok-module.ensures.judged c.in_ok-module.module c.in_ok-module.ensures.own).legal
 
 pub returns : goal.returns
-returns c = play_admitted _ _ c.in_ok-module.ensures.judged c.in_ok-module.module c.in_ok-module.ensures.lent _ _ c.play_ticks-played.result _ c.play_ticks-played.ensures
+returns c = play_admitted _ _ c.in_ok-module.ensures.judged c.in_ok-module.module c.in_ok-module.ensures.own _ _ c.play_ticks-played.result _ c.play_ticks-played.ensures

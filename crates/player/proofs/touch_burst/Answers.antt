@@ -9,4 +9,4 @@ unfolding burst_of
 returns-in_err-module c = search (not_admitted, rules)
 
 pub returns : goal.returns
-returns c = burst_admitted _ _ c.in_ok-module.ensures.judged c.in_ok-module.module c.in_ok-module.ensures.lent _ _ _ _ c.take_burst.ensures
+returns c = burst_admitted _ _ c.in_ok-module.ensures.judged c.in_ok-module.module c.in_ok-module.ensures.own _ _ _ _ c.take_burst.ensures

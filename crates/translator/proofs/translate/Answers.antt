@@ -7,10 +7,10 @@ pub returns-in_err-m : goal.returns-in_err-m
 returns-in_err-m c = search (c.in_err-m.ensures.refused, call_laws, rules)
 
 pub returns-then-ticks-gt-MOST_TICKS : goal.returns-then-ticks-gt-MOST_TICKS
-returns-then-ticks-gt-MOST_TICKS c = search (c.in_ok-m.ensures.accepted, call_laws, rules)
+returns-then-ticks-gt-MOST_TICKS c = search (c.in_ok-m.ensures.own, call_laws, rules)
 
 pub returns-then-room-len : goal.returns-then-room-len
-returns-then-room-len c = search (c.in_ok-m.ensures.accepted, call_laws, rules)
+returns-then-room-len c = search (c.in_ok-m.ensures.own, call_laws, rules)
 
 pub returns : goal.returns
-returns c = search (c.in_ok-m.ensures.accepted, call_laws, rules)
+returns c = search (c.in_ok-m.ensures.own, call_laws, rules)
