@@ -42,7 +42,7 @@ pub extern "C" fn lampthistle_version() -> u32
 pub extern "C" fn lampthistle_judge(file: &[u8], answer: &mut [u64; ANSWER_CELLS])
     ensures { answer.new ≡ answer_cells (judge_of file.now) }
 {
-    put_answer(reader::verdict::judge(file).into(), answer);
+    put_answer(reader::judge(file), answer);
 }
 
 // How many channels a file has by its tag, 0 where it has no tag that is known.

@@ -6,7 +6,6 @@ ghost use Rattle.std.specs.Io.{StartsWith};
 
 mod playing;
 
-use common::Answer;
 use std::env::FillError;
 use std::io::{Cursor, Read, Write};
 use std::rt::{Env, Files};
@@ -130,7 +129,7 @@ fn each<R: Env + Files + Print, F: Fn(&[u8]) -> io::Result<()>>(
 // Judges each file: a line with its name, the number and the place. A file that cannot be opened is named on `errors` and passed over.
 pub fn judge_each<R: Env + Files + Print>(rt: &R, errors: &impl Print) -> io::Result<()> {
     each(rt, errors, |file| {
-        let judged = Answer::from(reader::verdict::judge(file));
+        let judged = reader::judge(file);
         println!(rt; " {} {}", judged.number, judged.place)
     })
 }

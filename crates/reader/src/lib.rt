@@ -3,7 +3,7 @@
 
 ghost use Rattle.std.specs.Prelude.{◌≡◌};
 ghost use Rattle.reader.specs.File.{lent};
-ghost use Rattle.reader.specs.Judge.{verdict};
+ghost use Rattle.reader.specs.Judge.{verdict, judge_of};
 ghost use Rattle.reader.specs.Layouts.{LegalLayout};
 
 use common::Answer;
@@ -56,4 +56,11 @@ pub fn judge_by(layout: Layout, file: &[u8]) -> Answer
     ensures { result ≡ verdict (lent layout file.now) }
 {
     verdict::judge_by(layout, file).into()
+}
+
+// Whether the bytes are a module: the first refusal of the table, with its place.
+pub fn judge(file: &[u8]) -> Answer
+    ensures { result ≡ judge_of file.now }
+{
+    verdict::judge(file).into()
 }
