@@ -13,6 +13,7 @@ mod halves;
 mod headed;
 mod headers;
 pub mod module;
+pub mod narrow;
 pub mod offsets;
 pub mod samples;
 mod search;

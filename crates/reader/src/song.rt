@@ -9,7 +9,7 @@ ghost use Rattle.reader.specs.Layouts.{LegalLayout};
 
 use crate::offsets::{CELL_BYTES, FINETUNE_AT, HEADER_BYTES, HEADERS_AT, VOLUME_AT};
 use crate::{Cell, Layout};
-use common::bytes::byte_or_0;
+use common::bytes::{byte, byte_or_0};
 use common::limits::ROWS;
 
 // The song length; and that the file's elements are bytes, which a caller's proof may need.
@@ -81,19 +81,19 @@ pub fn cell_in(file: &[u8], row: usize, channel: usize) -> Cell
 }
 
 // The volume of the header of sample number k, from 1.
-pub fn header_volume(file: &[u8], k: u8) -> u8
+pub fn header_volume(file: &[u8], k: u32) -> u32
     requires { 0 < k }
     ensures { result ≡ header_volume file.now (k - 1) }
 {
-    let header = HEADERS_AT + HEADER_BYTES * usize::from(k - 1);
-    byte_or_0(file, header + VOLUME_AT)
+    let header = HEADERS_AT + HEADER_BYTES * (k - 1) as usize;
+    byte(file, header + VOLUME_AT)
 }
 
 // The finetune of the header of sample number k, from 1: 0 to 15, 8 to 15 meaning -8 to -1.
-pub fn header_finetune(file: &[u8], k: u8) -> u8
+pub fn header_finetune(file: &[u8], k: u32) -> u32
     requires { 0 < k }
     ensures { result ≡ header_finetune file.now (k - 1) }
 {
-    let header = HEADERS_AT + HEADER_BYTES * usize::from(k - 1);
-    byte_or_0(file, header + FINETUNE_AT) % 16
+    let header = HEADERS_AT + HEADER_BYTES * (k - 1) as usize;
+    byte(file, header + FINETUNE_AT) % 16
 }
