@@ -1,5 +1,5 @@
 // Where the samples lie.
-ghost use Rattle.std.specs.Prelude.{◌≡◌, ◌+◌, ◌*◌, ◌≤◌, ◌<◌};
+ghost use Rattle.std.specs.Prelude.{◌≡◌, ◌+◌, ◌*◌, ◌≤◌, ◌<◌, length};
 ghost use Rattle.laws.specs.Ranges.{total};
 ghost use Rattle.reader.specs.Layouts.{LegalLayout};
 ghost use Rattle.reader.specs.File.{lent, sample_count, sample_words, sample_behind, sample_place};
@@ -76,6 +76,15 @@ impl<'a> Headed<'a> {
         }
         table
     }
+}
+
+// Where sample k, from 0, begins behind n patterns of a file with room for its headers; at the number of samples, the end of the last.
+pub fn sample_behind(layout: Layout, file: &[u8], n: usize, k: usize) -> usize
+    requires legal_layout { LegalLayout layout }
+    requires patterns_in_bounds { (layout.patterns ≤ length file.now) × ((n < 257) × (k ≤ layout.samples)) }
+    ensures { (result ≡ sample_behind (lent layout file.now) n k) × (result ≤ 530000 + 131070 * k) }
+{
+    Headed { layout, file }.sample_behind(n, k)
 }
 
 // The extents by sample number; number 0 is no sample.
