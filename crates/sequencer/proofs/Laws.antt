@@ -1,8 +1,9 @@
 -- What the functions of the song rest on: places and moves by their numbers, a row's few ticks, and the loops over the channels.
 -- Assumes nothing.
-use Rattle.std.proofs.Common.{◌≡◌, ℕ, zero, suc, ◌+◌, ◌*◌, ◌%◌, ◌^◌, ◌<◌, ◌≤◌, Bool, List, length, get_or, set, refl, ap, ◌∙◌, mul-le-mul, add-one, arith, le-ltb, lt-ltb}
+use Rattle.std.proofs.Common.{◌≡◌, ℕ, zero, suc, ◌+◌, ◌*◌, ◌%◌, ◌^◌, ◌<◌, ◌≤◌, Bool, List, length, get_or, set, refl, ap, ◌∙◌, ⊎_elim, mul-le-mul, add-one, arith, le-ltb, lt-ltb}
 use Rattle.std.proofs.Common.{[], ◌∷◌, ◌++◌}
 use Rattle.std.proofs.Math.Bool.{and-true}
+use Rattle.std.proofs.lemmas.Bool.{cases_lt}
 use Rattle.std.proofs.lemmas.List.{map-id}
 use Rattle.std.proofs.lemmas.List.Folds.{list_all-append}
 use Rattle.std.proofs.lemmas.List.FromFn.{map-range_with_len_more}
@@ -33,7 +34,7 @@ use Rattle.sequencer.specs.declared.Song.{Song}
 use Rattle.sequencer.specs.declared.AllVoiced.{AllVoiced}
 use Rattle.ticks.specs.Commands.{nothing}
 use Rattle.reader.specs.Layouts.{LegalLayout}
-use Rattle.sequencer.specs.LegalFacts.{LegalTime, LegalSong, LegalRun}
+use Rattle.sequencer.specs.LegalFacts.{LegalTime, LegalSong, LegalSounding, LegalRun}
 
 -- ---- places and moves
 
@@ -85,6 +86,11 @@ module _ (m : Module) (s : Song) (k : List ℕ) (all : AllVoiced) where
   pub voicing_end : (positions i : ℕ) → LegalSong positions m.layout s → Voicing m s k all i → channel_count m ≤ i → i ≤ channel_count m → all ≡ all_voiced m s k
   unfolding all_voiced
   voicing_end positions i z w l h = rw (part_end _ _ _ _ _ i (channel_count m) w.worked l h, same_parts (λ j. (voiced_on m s k j).channel) _ (channel_count m) _ (λ j. fresh_channel) width (λ j q. refl) z.rest, part_end _ _ _ _ _ i (channel_count m) w.told l h)
+
+-- ---- the samples that sound fit a byte
+pub sounding_small : (m : Module) (k : List ℕ) → LegalLayout m.layout → LegalSounding m k → (i : ℕ) → i < width → get_or k i 0 < 256
+sounding_small m k y l i w =
+    ⊎_elim (λ (u : i < channel_count m). omega (arith, l.low i u, y.samples)) (λ (r : channel_count m ≤ i). omega (arith, l.rest i w r)) (cases_lt i (channel_count m))
 
 -- ---- the song after the row's work has a tick below its row's
 pub work_time : (l : Layout) (xs : List ℕ) (s r : Song) (k : List ℕ) → (verdict (lent l xs)).number ≡ 0 → Bytes xs → LegalRun (lent l xs) s k → r ≡ song_work (lent l xs) s → LegalTime r.time

@@ -209,8 +209,16 @@ impl Song {
     }
 }
 
+// Sample numbers that fit a byte, as bytes: the remainder leaves each as it is.
+fn narrowed(samples: [u32; WIDTH]) -> [u8; WIDTH]
+    requires { (i : ℕ) → i < width → slice_index samples i < 256 }
+    ensures { result ≡ samples }
+{
+    samples.map(|sample| (sample % 256) as u8)
+}
+
 // The same of a module that is lent in parts.
-pub fn tick(layout: Layout, file: &[u8], song: Song, sounding: [u8; WIDTH]) -> Worked
+pub fn tick(layout: Layout, file: &[u8], song: Song, sounding: [u32; WIDTH]) -> Worked
     requires layout { LegalLayout layout }
     requires accepted { (verdict (lent layout file.now)).number ≡ 0 }
     requires legal { LegalRun (lent layout file.now) song sounding }
@@ -223,7 +231,7 @@ pub fn tick(layout: Layout, file: &[u8], song: Song, sounding: [u8; WIDTH]) -> W
         at: song.course.at,
         cells: reader::song::row_at(layout, file, song.course.at.position, song.course.at.row),
     };
-    tick_in(&row, song, sounding)
+    tick_in(&row, song, narrowed(sounding))
 }
 
 // The samples that the voices have after these commands.
