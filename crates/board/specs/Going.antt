@@ -33,6 +33,12 @@ pub record Going (m : Module) (w : Machine) (ts : List Tick) : Type 0 where
   pub sounding : (j : ℕ) → j < m.layout.channels → (get_or w.voices j blank).sample ≡ get_or soundings j 0
   pub legal : LegalTicks m.layout.samples soundings ts
 
+-- the registers are the commands that sound, and the ticks are legal after them
+pub record Sounds (m : Module) (w : Machine) (registers : List Command) (ts : List Tick) : Type 0 where
+  pub long : length registers ≡ width
+  pub sounding : (j : ℕ) → j < m.layout.channels → (get_or w.voices j blank).sample ≡ (get_or registers j nothing).sample
+  pub legal : LegalTicks m.layout.samples (sounding_of registers) ts
+
 first_is : {last : ℕ} {soundings : List ℕ} {t : Tick} {ts : List Tick} → LegalTicks last soundings (t ∷ ts) → LegalTick last soundings t × LegalTicks last (sounding_of t.commands) ts
 first_is (more l ls) = (l, ls)
 
@@ -53,6 +59,14 @@ going_begin m ts l =
       soundings = sounding_of at_first;
       long = length-sounding at_first ∙ first_long;
       sounding = λ j h. fresh_sample j (omega (arith, m.legal.channels)) ∙ sym (get_or-sounding at_first j ∙ ap (λ (c : Command). c.sample) (first_at j));
+      legal = l;
+    }
+
+pub sounds_begin : (m : Module) (ts : List Tick) → LegalTicks m.layout.samples (sounding_of at_first) ts → Sounds m fresh_machine at_first ts
+sounds_begin m ts l =
+    record {
+      long = first_long;
+      sounding = λ j h. fresh_sample j (omega (arith, m.legal.channels)) ∙ ap (λ (c : Command). c.sample) (sym (first_at j));
       legal = l;
     }
 
@@ -90,3 +104,13 @@ module _ {m : Module} {w : Machine} {ts : List Tick} (g : Going m w ts) (t : Tic
         sounding = λ j l. after_sample keeps m.layout.channels (samples_of (as_module m)) w t j m.legal.channels l ∙ sym (get_or-sounding t.commands j);
         legal = first.1;
       }
+
+  -- and its commands are the registers then
+  pub sounds_more : (keeps : Bool) (registers : List Command) → registers ≡ t.commands → Sounds m (after keeps m.layout.channels (samples_of (as_module m)) w t) registers rest
+  sounds_more keeps registers q =
+      rw q
+      (record {
+        long = first.0.long ∙ g.long;
+        sounding = λ j l. after_sample keeps m.layout.channels (samples_of (as_module m)) w t j m.legal.channels l;
+        legal = first.1;
+      })

@@ -1,28 +1,34 @@
--- The loop that leads a machine to a stream's tick, with the ticks before it passed by (`Leading`), and why a part goes on where another ends (`led_on`).
+-- The loop that leads a machine to a stream's tick, with the ticks before it passed by (`Leading`): what it leaves (`Led`), and why a part goes on where
+-- another ends (`led_on`).
 -- Assumes nothing.
-use Rattle.std.specs.Prelude.{ℕ, ◌+◌, ◌-◌, ◌≤◌, ◌≡◌, refl, Bool, List, [], ◌∷◌, take}
+use Rattle.std.specs.Prelude.{ℕ, ◌+◌, ◌-◌, ◌^◌, ◌≤◌, ◌<◌, ◌≡◌, refl, Bool, List, [], ◌∷◌, take}
 use Rattle.std.proofs.Math.Path.{sym, ap}
 use Rattle.std.proofs.Common.{◌∙◌, arith, take-add, drop-drop}
 use Rattle.std.proofs.Math.ListN.{drop}
 use Rattle.std.proofs.Math.Seq.{take-nil, drop-nil}
 use Rattle.common.specs.Limits.{greatest_tempo}
 use Rattle.ticks.specs.Commands.{sounding_of}
+use Rattle.ticks.specs.declared.Command.{Command}
 use Rattle.ticks.specs.Legal.{LegalTicks}
 use Rattle.ticks.specs.declared.Tick.{Tick}
 use Rattle.ticks.specs.Play.{after_all}
 use Rattle.ticks.specs.PlayLaws.{after_append}
+use Rattle.reader.specs.File.{Module as FileModule, sample_count, channel_count}
 use Rattle.reader.specs.Modules.{as_module}
 use Rattle.reader.specs.Samples.{Sample}
 use Rattle.reader.specs.declared.module.Module.{Module}
 use Rattle.voice.specs.Voice.{samples_of}
 use Rattle.machine.specs.declared.Machine.{Machine}
 use Rattle.machine.specs.Machine.{fresh_machine, after, mechanism}
-use Rattle.records.specs.Format.{at_first, decode}
+use Rattle.records.specs.Format.{at_first, ticks, decode}
 use Rattle.decoder.specs.declared.stream.Stream.{Stream}
-use Rattle.decoder.specs.Remaining.{whole_legal}
+use Rattle.decoder.specs.declared.stream.Ticks.{Ticks}
+use Rattle.decoder.specs.Left.{ticks_left, left_of}
+use Rattle.decoder.specs.Remaining.{whole_ticks, whole_legal}
 use Rattle.decoder.specs.Whole.{ticks_in}
 use Rattle.board.specs.Board.{led_to}
-use Rattle.board.specs.Going.{Going, going_begin, going_more}
+use Rattle.board.specs.Going.{Going, Sounds, going_begin, going_more}
+use Rattle.board.specs.Reading.{Reading}
 
 -- ---- parts of a play
 module _ (keeping : Bool) (c : ℕ) (samples : ℕ → Sample) where
@@ -83,3 +89,33 @@ module _ {m : Module} {keeping : Bool} {its : List Tick} where
 -- the ticks of a stream that is for the module are legal
 pub led_legal : (m : Module) (s : Stream) → s.scope.last ≡ m.layout.samples → s.scope.channels ≡ m.layout.channels → LegalTicks m.layout.samples (sounding_of at_first) (ticks_in (decode m.layout.samples m.layout.channels s.header.bytes.now))
 led_legal m s p q = rw (← p, ← q) (whole_legal s.scope.last s.scope.channels s.header.bytes.now s.whole)
+
+-- ---- what the loop leaves: the machine before tick `first`, and so many records of the stream from a place on, after the registers that sound
+pub record Led (m : FileModule) (s : List ℕ) (keeping : Bool) (first : ℕ) (w : Machine) (registers : List Command) (place left : ℕ) : Type 0 where
+  pub its : List Tick
+  pub is : decode (sample_count m) (channel_count m) s ≡ ticks its
+  pub machine : w ≡ led_to keeping (channel_count m) (samples_of m) first its
+  pub below : (w.remainder < w.tempo) × (w.tempo ≤ greatest_tempo)
+  pub few : left < 2 ^ 32
+  pub going : Reading m s left w.voices registers place 0 (drop first its)
+
+pub leading_end : (m : Module) (s : Stream) → s.scope.last ≡ m.layout.samples → s.scope.channels ≡ m.layout.channels → (keeping : Bool) (w : Machine) (t : Ticks) (first : ℕ) → t.stream ≡ s
+    → Leading m keeping (ticks_in (decode m.layout.samples m.layout.channels s.header.bytes.now)) w (ticks_left t) first → Sounds m w t.registers (ticks_left t) → Led (as_module m) s.header.bytes.now keeping first w t.registers t.next t.left
+leading_end m s p q keeping w t first e g n =
+    let d : t.left - 0 ≡ t.left = omega arith in
+    record {
+      its = ticks_in (decode m.layout.samples m.layout.channels s.header.bytes.now);
+      is = whole_ticks m.layout.samples m.layout.channels s.header.bytes.now (rw (← p, ← q) s.whole);
+      machine = g.machine;
+      below = g.going.below;
+      few = t.few;
+      going =
+          record {
+            layout = m.legal;
+            judge = m.judged;
+            left = rw (d, ← g.left) (left_of t m.layout.samples m.layout.channels s.header.bytes.now (ap (λ (x : Stream). x.scope.last) e ∙ p) (ap (λ (x : Stream). x.scope.channels) e ∙ q) (ap (λ (x : Stream). x.header.bytes.now) e) n.legal);
+            legal = g.going.voices;
+            long = n.long;
+            sounding = n.sounding;
+          };
+    }

@@ -60,7 +60,7 @@ pub fn play_stream_from(
 {
     let module = Module::read(file)?;
     let stream = Stream::read(scope(&module), stream)?;
-    let (mut sounder, ticks) = lead(&module, &stream, first);
+    let (mut sounder, ticks) = lead(&module, &stream, stream.header.keeps(), first);
     Ok(play_ticks(&mut sounder, ticks, out))
 }
 

@@ -1,14 +1,18 @@
--- The ticks that are left of a stream that is read one by one, and that they are no more than a stream can say that it has (`left_few`).
+-- The ticks that are left of a stream that is read one by one: they are no more than a stream can say that it has (`left_few`), and those of the
+-- records from a place on (`left_of`).
 -- Assumes nothing.
-use Rattle.std.specs.Prelude.{ℕ, zero, suc, ◌^◌, ◌≤◌, ◌<◌, List, length, eqb}
-use Rattle.std.proofs.Common.{arith}
+use Rattle.std.specs.Prelude.{ℕ, zero, suc, ◌^◌, ◌≤◌, ◌<◌, ◌≡◌, refl, true, List, length, eqb}
+use Rattle.std.proofs.Common.{sym, arith, true≢false}
 use Rattle.laws.specs.Choice.{either}
 use Rattle.ticks.specs.declared.Command.{Command}
 use Rattle.ticks.specs.declared.Tick.{Tick}
+use Rattle.ticks.specs.Commands.{sounding_of}
+use Rattle.ticks.specs.Legal.{LegalTicks}
 use Rattle.records.specs.Format.{read_record, Decoded, refusal, ticks, with_tick, decode_records}
 use Rattle.records.specs.Reads.{on_either}
 use Rattle.decoder.specs.declared.stream.Ticks.{Ticks}
-use Rattle.decoder.specs.Whole.{ticks_in}
+use Rattle.decoder.specs.Remaining.{Left}
+use Rattle.decoder.specs.Whole.{has_ticks, ticks_in}
 
 abbrev pub ticks_left : Ticks → List Tick
 ticks_left t = ticks_in (decode_records t.stream.scope.last t.stream.scope.channels t.stream.header.bytes.now t.left t.next t.registers)
@@ -26,3 +30,11 @@ records_few last c s (suc n) at registers =
 
 pub left_few : (t : Ticks) → length (ticks_left t) < 2 ^ 32
 left_few t = omega (arith, t.few, records_few t.stream.scope.last t.stream.scope.channels t.stream.header.bytes.now t.left t.next t.registers)
+
+ticks_there : (d : Decoded) → has_ticks d ≡ true → d ≡ ticks (ticks_in d)
+unfolding has_ticks ticks_in
+ticks_there (refusal number place) h = absurd (true≢false (sym h))
+ticks_there (ticks ts) h = refl
+
+pub left_of : (t : Ticks) (last c : ℕ) (s : List ℕ) → t.stream.scope.last ≡ last → t.stream.scope.channels ≡ c → t.stream.header.bytes.now ≡ s → LegalTicks last (sounding_of t.registers) (ticks_left t) → Left last c s t.left t.next t.registers (ticks_left t)
+left_of t last c s p q r l = record { reads = rw (← p, ← q, ← r) (ticks_there _ t.all); legal = l }

@@ -1,5 +1,5 @@
 // A stream: its header's numbers, and the judgement of its bytes (refusals 21, 22, 28 and 23).
-ghost use Rattle.std.specs.Prelude.{◌≡◌, ◌^◌, ◌≤◌, ◌<◌, true, length, IfOk};
+ghost use Rattle.std.specs.Prelude.{◌≡◌, ◌^◌, ◌≤◌, ◌<◌, true, length, IfOk, IfSome, IfNone};
 ghost use Rattle.std.specs.Iterator.{YieldsFirst, item_count};
 ghost use Rattle.common.specs.Refusals.{judged};
 ghost use Rattle.records.specs.Format.{records_place, version_of, known_version, keeps, shift, stream_channels, tick_count, first_record, at_first, decode_records, decode};
@@ -168,7 +168,9 @@ impl<'a> Stream<'a> {
     // The stream's ticks, one by one.
     #[tactic(auto, using(crate::proofs::Records::whole_reads))]
     pub fn ticks(&self) -> Ticks<'a>
-        ensures { ticks_left result ≡ ticks_in (decode self.now.scope.last self.now.scope.channels self.now.header.bytes.now) }
+        ensures all { ticks_left result ≡ ticks_in (decode self.now.scope.last self.now.scope.channels self.now.header.bytes.now) }
+        ensures stream { result.stream ≡ self.now }
+        ensures registers { result.registers ≡ at_first }
     {
         Ticks {
             stream: *self,
@@ -176,6 +178,31 @@ impl<'a> Stream<'a> {
             next: self.header.first_record(),
             left: self.header.count(),
         }
+    }
+}
+
+impl<'a> Ticks<'a> {
+    ghost use Rattle.decoder.specs.Left.{ticks_left};
+
+    // The next tick, as `next` gives it: its commands are the registers then.
+    #[tactic(auto, using(crate::proofs::Records::next_there, crate::proofs::Records::next_first, crate::proofs::Records::next_others, crate::proofs::Records::next_none))]
+    pub fn next_tick(&mut self) -> Option<Tick>
+        ensures steps { YieldsFirst ticks_left self.old result self.new }
+        ensures stream { self.new.stream ≡ self.old.stream }
+        ensures registers { IfSome result (λ t. self.new.registers ≡ t.commands) }
+        ensures stays { IfNone result (self.new ≡ self.old) }
+    {
+        let left = self.left.checked_sub(1)?;
+        let stream = self.stream;
+        let Record { tick, next } = stream
+            .scope
+            .read_record(stream.header.bytes, self.next, &self.registers)
+            .unwrap();
+        let commands = tick.commands;
+        self.registers = commands;
+        self.next = next;
+        self.left = left;
+        Some(tick)
     }
 }
 
@@ -188,18 +215,7 @@ impl<'a> Iterator for Ticks<'a> {
 
     ghost remaining = { item_count ticks_left };
 
-    #[tactic(auto, using(crate::proofs::Records::next_there, crate::proofs::Records::next_first, crate::proofs::Records::next_others, crate::proofs::Records::next_none))]
     fn next(&mut self) -> Option<Tick> {
-        let left = self.left.checked_sub(1)?;
-        let stream = self.stream;
-        let Record { tick, next } = stream
-            .scope
-            .read_record(stream.header.bytes, self.next, &self.registers)
-            .unwrap();
-        let commands = tick.commands;
-        self.registers = commands;
-        self.next = next;
-        self.left = left;
-        Some(tick)
+        self.next_tick()
     }
 }

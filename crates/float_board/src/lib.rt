@@ -34,7 +34,7 @@ fn try_floats(
     let module = Module::read(file)?;
     let sides = Sides::try_from(sides)?;
     let stream = Stream::read(board::scope(&module), stream)?;
-    let (frames, ticks) = lead(&module, &stream, first);
+    let (frames, ticks) = lead(&module, &stream, stream.header.keeps(), first);
     let mut sounder = Floats {
         frames,
         sides,
