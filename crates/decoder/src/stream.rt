@@ -10,10 +10,7 @@ use crate::reading::{Record, Scope};
 use common::bytes::four;
 use common::limits::{WIDTH, is_between};
 use common::refusals::{Refusal, Rule};
-use records::{
-    CHANNELS_PLACE, COUNT_PLACE, COUNTED_VERSION, FIRST_VERSION, LEAST_PLACE, OLD_CHANNELS,
-    VERSION, VERSION_PLACE,
-};
+use records::{COUNT_PLACE, FIRST_VERSION, LEAST_PLACE, VERSION, VERSION_PLACE};
 use ticks::{Command, Tick};
 
 // A stream's bytes, whose header is in.
@@ -40,14 +37,6 @@ pub struct Ticks<'a> {
     pub left: usize,
     ghost few: { left < 2 ^ 32 },
     ghost all: { has_ticks (decode_records stream.scope.last stream.scope.channels stream.header.bytes.now left next registers) ≡ true },
-}
-
-// By how many bytes a version's channel count moves what comes after it.
-#[tactic(auto, unfolding(records::specs::Format::shift))]
-fn shift(version: u8) -> usize
-    ensures { (result ≡ shift version) × (result ≤ 1) }
-{
-    usize::from(version >= COUNTED_VERSION)
 }
 
 // Whether a version is one that is read.
@@ -78,14 +67,14 @@ impl<'a> Header<'a> {
     pub fn shift(&self) -> usize
         ensures { (result ≡ shift (version_of self.now.bytes.now)) × (result ≤ 1) }
     {
-        shift(self.version())
+        crate::shift(self.version())
     }
 
     // The place of the first record.
     pub fn first_record(&self) -> usize
         ensures { (result ≡ first_record self.now.bytes.now) × (result ≤ records_place) }
     {
-        LEAST_PLACE + self.shift()
+        crate::first_record(self.bytes)
     }
 
     // How many ticks the stream says that it has.
@@ -96,23 +85,17 @@ impl<'a> Header<'a> {
     }
 
     // How many channels the stream is for.
-    #[tactic(auto, unfolding(records::specs::Format::stream_channels))]
     pub fn channels(&self) -> usize
         ensures { result ≡ stream_channels self.now.bytes.now }
     {
-        if self.version() < COUNTED_VERSION {
-            OLD_CHANNELS
-        } else {
-            usize::from(self.bytes[CHANNELS_PLACE])
-        }
+        crate::channels_in(self.bytes)
     }
 
     // Whether the stream's ticks keep a remainder.
-    #[tactic(auto, unfolding(records::specs::Format::keeps))]
     pub fn keeps(&self) -> bool
         ensures { result ≡ keeps self.now.bytes.now }
     {
-        self.version() != FIRST_VERSION
+        crate::keeps(self.bytes)
     }
 
     // Refusal 23. It ends at the first bad record, and a good one has at least two bytes, whatever the count is.
@@ -150,7 +133,7 @@ impl<'a> Stream<'a> {
         if !is_known(u32::from(version)) {
             return Err(Rule::StreamVersion.at(VERSION_PLACE));
         }
-        if bytes.len() < LEAST_PLACE + shift(version) {
+        if bytes.len() < LEAST_PLACE + crate::shift(version) {
             return Err(Rule::StreamChannels.at(VERSION_PLACE));
         }
         let header = Header { bytes };
