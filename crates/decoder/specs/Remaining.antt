@@ -1,6 +1,6 @@
 -- A stream that is decoded record by record: what is left of it (`Left`), by the registers, the place and the number of records left.
 -- Assumes nothing.
-use Rattle.std.specs.Prelude.{ℕ, zero, suc, ◌+◌, ◌-◌, ◌≤◌, ◌<◌, ◌≡◌, true, not, cond, ◌||◌, Ok, List, [], ◌∷◌, length, ltb, eqb}
+use Rattle.std.specs.Prelude.{ℕ, zero, suc, ◌+◌, ◌-◌, ◌≤◌, ◌<◌, ◌≡◌, true, not, cond, ◌||◌, Ok, List, [], ◌∷◌, length, ltb, eqb, IsOk}
 use Rattle.std.proofs.Math.Path.{refl, ap}
 use Rattle.std.proofs.Common.{sym, ◌∙◌, true≢false}
 use native.Mathlib.Omega.{arith}
@@ -16,7 +16,7 @@ use Rattle.records.specs.Reads.{on_either, on_good, passed, not-ticks, with_tick
 use Rattle.records.specs.Decoded.{stream_of_lem}
 use Rattle.decoder.specs.declared.reading.Record.{Record}
 use Rattle.decoder.specs.Answers.{answer_of}
-use Rattle.decoder.specs.Results.{as_record, was_read}
+use Rattle.decoder.specs.Results.{as_result, as_record, was_read}
 use Rattle.ticks.specs.Commands.{sounding_of}
 use Rattle.decoder.specs.Whole.{has_ticks, ticks_in, Whole}
 
@@ -120,6 +120,14 @@ first_legal : (last : ℕ) (soundings : List ℕ) (t : Tick) (ts : List Tick) �
 first_legal last soundings t ts (more l ls) = (l, ls)
 
 module _ (last c : ℕ) (s : List ℕ) (n i at : ℕ) (registers : List Command) (ts : List Tick) (w : Left last c s (n - i) at registers ts) where
+  -- the next record is there
+  pub left_there : i < n → IsOk (as_record (read_record last c s at registers))
+  unfolding as_result
+  left_there h =
+      let a = on_good (refusal 23 at) (read_record last c s at registers) (λ t p. with_tick t (decode_records last c s (n - i - 1) p t.commands)) (ticks ts) (not-ticks 23 at ts)
+      (sym (next_record last c s (n - i) at registers (omega arith)) ∙ w.reads) in
+      rw a.is
+
   pub left_next : (r : Record) → i < n → Ok r ≡ as_record (read_record last c s at registers) → Next last c s (n - (i + 1)) registers ts r
   left_next r h e =
       let a = on_good (refusal 23 at) (read_record last c s at registers) (λ t p. with_tick t (decode_records last c s (n - i - 1) p t.commands)) (ticks ts) (not-ticks 23 at ts)
