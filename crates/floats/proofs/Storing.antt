@@ -13,6 +13,7 @@ use mir.ValLaws.{to_z-of_z}
 use borrow.Author.Tests.{ne_eqb}
 use Rattle.std.proofs.Common.{◌⊎◌, inl, inr}
 use Rattle.laws.specs.Signed.{back}
+use Rattle.floats.specs.declared.Frame.{Frame}
 use Rattle.floats.specs.declared.Frame.TheVariants.{Silence, Mono, Stereo}
 use Rattle.floats.specs.Exact.{exactly}
 use Rattle.floats.specs.declared.Sides.{Sides}
@@ -37,6 +38,11 @@ module _ (left right : ℤ) (l : SFits w16 left) (r : SFits w16 right) where
   pub gives_silence : (sides : ℕ) → of_z w16 left ≡ 0 → of_z w16 right ≡ 0 → Silence ≡ delivered sides left right
   unfolding delivered
   gives_silence sides p q = rw (silent p q)
+
+  -- a number of sides that is not one is as good as two
+  pub gives_two : (sides : ℕ) → (sides ≡ 1 → ⊥) → (frame : Frame) → frame ≡ delivered 2 (back left) (back right) → frame ≡ delivered sides left right
+  unfolding delivered
+  gives_two sides n frame e = rw (e, ne_eqb sides 1 n, to_z-of_z w16 left l, to_z-of_z w16 right r)
 
   module _ (h : (of_z w16 left ≡ 0 × (of_z w16 right ≡ 0 → ⊥)) ⊎ (of_z w16 left ≡ 0 → ⊥)) (sides : Sides) where
     pub gives_mono : (x : Float) → sides ≡ One → x ≡ exactly (back left +ℤ back right) 16 → Mono x ≡ delivered (count_of sides) left right

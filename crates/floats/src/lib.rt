@@ -76,7 +76,7 @@ fn mono_number(left: i16, right: i16) -> f32
 }
 
 // A frame as it is delivered.
-pub fn deliver(left: i16, right: i16, sides: Sides) -> Frame
+pub fn deliver_to(left: i16, right: i16, sides: Sides) -> Frame
     ensures { result ≡ delivered (count_of sides) left right }
 {
     if left == 0 && right == 0 {
@@ -86,6 +86,16 @@ pub fn deliver(left: i16, right: i16, sides: Sides) -> Frame
         Sides::One => Frame::Mono(mono_number(left, right)),
         Sides::Two => Frame::Stereo(side_number(left), side_number(right)),
     }
+}
+
+// The same by any number of sides: what is not one is two.
+pub fn deliver(left: i16, right: i16, sides: u32) -> Frame
+    ensures { result ≡ delivered sides left right }
+{
+    if sides == 1 {
+        return deliver_to(left, right, Sides::One);
+    }
+    deliver_to(left, right, Sides::Two)
 }
 
 // A delivered frame's numbers into out from a position on: silence takes as many zeros as the page has sides.
@@ -134,7 +144,7 @@ pub fn convert(frames: &[i16], sides: Sides, tick: u32, old: Pair, out: &mut [f3
     let (pairs, _) = frames.as_chunks::<2>();
     for pair in pairs {
         let [left, right] = *pair;
-        store(deliver(left, right, sides), sides, out, at);
+        store(deliver_to(left, right, sides), sides, out, at);
         last = pair_at(left, right, tick);
         at += sides.count();
     }

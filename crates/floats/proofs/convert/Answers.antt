@@ -10,19 +10,19 @@ loop-pair-init c = going_begin _ _ _ _ _ (sides_some c.args.sides, sides_few c.a
 pub store-requires : goal.store-requires
 store-requires c =
     let p = c.as_chunks.ensures in
-    going_room _ _ _ _ _ _ _ _ _ c.loop-pair.invariant (pair_more _ _ p.front p.front_len _ c.loop-pair-test.true) _ (pair_there _ _ p.front p.front_len _ c.loop-pair-test.true) (search rules) (search rules) _ c.deliver.ensures
+    going_room _ _ _ _ _ _ _ _ _ c.loop-pair.invariant (pair_more _ _ p.front p.front_len _ c.loop-pair-test.true) _ (pair_there _ _ p.front p.front_len _ c.loop-pair-test.true) (search rules) (search rules) _ c.deliver_to.ensures
 
 pub overflow_add-at : goal.overflow_add-at
 overflow_add-at c =
     let p = c.as_chunks.ensures in
     rw c.count-at.ensures
-    (going_next _ _ _ _ _ _ _ _ _ c.loop-pair.invariant (pair_more _ _ p.front p.front_len _ c.loop-pair-test.true) _ (pair_there _ _ p.front p.front_len _ c.loop-pair-test.true) (search rules) (search rules) _ c.deliver.ensures)
+    (going_next _ _ _ _ _ _ _ _ _ c.loop-pair.invariant (pair_more _ _ p.front p.front_len _ c.loop-pair-test.true) _ (pair_there _ _ p.front p.front_len _ c.loop-pair-test.true) (search rules) (search rules) _ c.deliver_to.ensures)
 
 pub loop-pair-preserved : goal.loop-pair-preserved
 loop-pair-preserved c =
     let p = c.as_chunks.ensures in
     rw c.count-at.ensures
-    (going_again _ _ _ _ _ _ _ _ _ c.loop-pair.invariant (pair_more _ _ p.front p.front_len _ c.loop-pair-test.true) _ (pair_there _ _ p.front p.front_len _ c.loop-pair-test.true) (search rules) (search rules) _ c.deliver.ensures _ _ c.store.ensures c.pair_at-last.ensures _ (omega arith))
+    (going_again _ _ _ _ _ _ _ _ _ c.loop-pair.invariant (pair_more _ _ p.front p.front_len _ c.loop-pair-test.true) _ (pair_there _ _ p.front p.front_len _ c.loop-pair-test.true) (search rules) (search rules) _ c.deliver_to.ensures _ _ c.store.ensures c.pair_at-last.ensures _ (omega arith))
 
 pub returns-clause-last : goal.returns-clause-last
 returns-clause-last c = let p = c.as_chunks.ensures in going_last _ _ _ _ _ _ _ _ _ c.loop-pair.invariant (pair_none _ _ p.front p.front_len _ c.loop-pair-test.false)
