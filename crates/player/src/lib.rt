@@ -63,6 +63,13 @@ impl Default for State {
     }
 }
 
+// A state's default by its name.
+pub fn fresh() -> State
+    ensures { result ≡ fresh_state }
+{
+    State::default()
+}
+
 // Plays the largest number of whole ticks, up to `ticks`, whose frames fit into out; the rest of out stays. Counts them.
 pub fn play(file: &[u8], state: &mut State, ticks: u32, out: &mut [i16]) -> Result<usize, Refusal>
     ensures { outcome (reply (answered result) state.new) out.new ≡ play_of file.now state.old ticks out.old }
