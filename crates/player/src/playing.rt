@@ -1,6 +1,9 @@
 // Playing ticks one by one into a buffer.
 ghost use Rattle.std.specs.Prelude.{◌≡◌, true, ◌<◌, ◌^◌, length};
 ghost use Rattle.common.specs.Answers.{accepted, outcome};
+ghost use Rattle.reader.specs.File.{lent};
+ghost use Rattle.reader.specs.Judge.{verdict};
+ghost use Rattle.reader.specs.Layouts.{LegalLayout};
 ghost use Rattle.reader.specs.Modules.{as_module};
 ghost use Rattle.sequencer.specs.LegalFacts.{LegalRun};
 ghost use Rattle.sequencer.specs.Songs.{tick_of};
@@ -14,6 +17,7 @@ use crate::{Reply, State};
 use common::limits::WIDTH;
 use machine::Machine;
 use machine::sounder::{Integers, Sounder};
+use reader::Layout;
 use reader::module::Module;
 use sequencer::{Song, Worked};
 use voice::Voice;
@@ -26,11 +30,22 @@ fn soundings(voices: &[Voice; WIDTH]) -> [u8; WIDTH]
 }
 
 // The song's next tick, beside the sounding samples of a sounder's machine.
-fn next_tick<S: Sounder>(sounder: &S, song: Song) -> Worked
+fn sounder_tick<S: Sounder>(sounder: &S, song: Song) -> Worked
     requires { LegalRun (as_module (S.way sounder.now).source) song (soundings (voices_in (S.way sounder.now) (S.state sounder.now))) }
     ensures { result ≡ tick_of (as_module (S.way sounder.now).source) song (soundings (voices_in (S.way sounder.now) (S.state sounder.now))) }
 {
     song.tick(sounder.module(), soundings(&sounder.machine().voices))
+}
+
+// The same of an accepted file that is lent in parts, beside the machine's sounding samples.
+pub fn next_tick(layout: Layout, file: &[u8], song: Song, machine: Machine) -> Worked
+    requires layout { LegalLayout layout }
+    requires accepted { (verdict (lent layout file.now)).number ≡ 0 }
+    requires legal { LegalRun (lent layout file.now) song (soundings machine.voices) }
+    ensures { result ≡ tick_of (lent layout file.now) song (soundings machine.voices) }
+{
+    let sounding = soundings(&machine.voices).map(|sample| sample.into());
+    sequencer::tick(layout, file, song, sounding)
 }
 
 pub fn after_ticks(song: Song, machine: Machine, count: u32) -> Reply
@@ -62,7 +77,7 @@ pub fn play_song<S: Sounder>(
     let mut song = start;
     let mut at = 0;
     for i in 0..n {
-        let worked = next_tick(sounder, song);
+        let worked = sounder_tick(sounder, song);
         match sounder.play_tick(worked.tick, &mut out[at..]) {
             None => {
                 return (song, i);

@@ -6,23 +6,23 @@ use Rattle.player.proofs.playing.play_song.Goals as goal
 pub loop-i-init : goal.loop-i-init
 loop-i-init g c = record { turning = turning_none _ _ _ _ _ c.requires.begins; same = refl; counted = omega arith }
 
-pub next_tick-worked-requires : goal.next_tick-worked-requires
-next_tick-worked-requires g c = rw c.loop-i.invariant.same (turning_run _ c.loop-i.invariant.turning)
+pub sounder_tick-worked-requires : goal.sounder_tick-worked-requires
+sounder_tick-worked-requires g c = rw c.loop-i.invariant.same (turning_run _ c.loop-i.invariant.turning)
 
 pub play_tick-requires-clause-due : goal.play_tick-requires-clause-due
-play_tick-requires-clause-due g c = rw c.loop-i.invariant.same (turning_due _ c.loop-i.invariant.turning c.loop-i-test.true _ (rw c.loop-i.invariant.same at c.next_tick-worked.ensures))
+play_tick-requires-clause-due g c = rw c.loop-i.invariant.same (turning_due _ c.loop-i.invariant.turning c.loop-i-test.true _ (rw c.loop-i.invariant.same at c.sounder_tick-worked.ensures))
 
 pub returns-in-None : goal.returns-in-None
-returns-in-None g c = turned_full _ c.loop-i.invariant.turning c.loop-i-test.true _ (rw c.loop-i.invariant.same at c.next_tick-worked.ensures) _ _ (rw c.loop-i.invariant.same at c.in-None.ensures.turned)
+returns-in-None g c = turned_full _ c.loop-i.invariant.turning c.loop-i-test.true _ (rw c.loop-i.invariant.same at c.sounder_tick-worked.ensures) _ _ (rw c.loop-i.invariant.same at c.in-None.ensures.turned)
 
 pub overflow_add-at : goal.overflow_add-at
 overflow_add-at g c =
-    turning_next _ c.loop-i.invariant.turning c.loop-i-test.true _ (rw c.loop-i.invariant.same at c.next_tick-worked.ensures) _ _ _ (rw c.loop-i.invariant.same at c.in-Some.ensures.turned) c.requires.narrow
+    turning_next _ c.loop-i.invariant.turning c.loop-i-test.true _ (rw c.loop-i.invariant.same at c.sounder_tick-worked.ensures) _ _ _ (rw c.loop-i.invariant.same at c.in-Some.ensures.turned) c.requires.narrow
 
 pub loop-i-preserved : goal.loop-i-preserved
 loop-i-preserved g c =
     record {
-      turning = turning_more _ c.loop-i.invariant.turning c.loop-i-test.true _ (rw c.loop-i.invariant.same at c.next_tick-worked.ensures) _ _ _ (rw c.loop-i.invariant.same at c.in-Some.ensures.turned);
+      turning = turning_more _ c.loop-i.invariant.turning c.loop-i-test.true _ (rw c.loop-i.invariant.same at c.sounder_tick-worked.ensures) _ _ _ (rw c.loop-i.invariant.same at c.in-Some.ensures.turned);
       same = c.in-Some.ensures.same ∙ c.loop-i.invariant.same;
       counted = omega (arith, c.in-Some.ensures.counted, c.loop-i.invariant.counted);
     }
