@@ -6,8 +6,9 @@ ghost use Rattle.reader.specs.Judge.{verdict};
 ghost use Rattle.reader.specs.Layouts.{LegalLayout};
 ghost use Rattle.reader.specs.Samples.{extents_of};
 
-use crate::headed::Headed;
 use crate::offsets::layout_of;
+use crate::samples::extents;
+use crate::song::song_length;
 use crate::verdict::judge_by;
 use crate::{Extent, Layout};
 use common::limits::SAMPLE_NUMBERS;
@@ -47,8 +48,8 @@ impl<'a> Module<'a> {
         Ok(Module {
             file,
             layout,
-            positions: u32::from(file[layout.song]),
-            extents: Headed { layout, file }.extents(),
+            positions: song_length(layout, file),
+            extents: extents(layout, file),
         })
     }
 
