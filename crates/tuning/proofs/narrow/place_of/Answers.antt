@@ -3,7 +3,7 @@ use Rattle.std.proofs.Common.{rules, tests, leb}
 use Rattle.std.proofs.lemmas.Iterator.{YieldsList-from_slice}
 use Rattle.std.proofs.lemmas.Iterator.Search.{position_from_yields_List}
 use Rattle.tuning.proofs.Places.{place_by}
-use Rattle.tuning.proofs.place_of.Goals as goal
+use Rattle.tuning.proofs.narrow.place_of.Goals as goal
 
 pub returns : goal.returns
 returns c =
