@@ -7,7 +7,8 @@ ghost use Rattle.effects.specs.Untouched.{touches_waves};
 
 use crate::notes::is_note;
 use motion::Wave;
-use motion::waves::{SQUARE, remembered};
+use motion::narrow::remembered;
+use motion::waves::SQUARE;
 use reader::Cell;
 
 // Effect 4, and 6, which runs it from memory.

@@ -2,6 +2,7 @@
 #![tactic(auto)]
 
 mod legal;
+pub mod narrow;
 pub mod slides;
 pub mod waves;
 

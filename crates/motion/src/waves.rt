@@ -1,9 +1,9 @@
 // Waves, of vibrato and tremolo alike. A wave's x and y are the digits of a parameter, its place is 0 to 63, its form 0 to 2.
-ghost use Rattle.std.specs.Prelude.{◌≡◌, ◌<◌, true};
+ghost use Rattle.std.specs.Prelude.{◌≡◌, ◌<◌};
 ghost use Rattle.motion.specs.Waves.{half_wave, sine, is_raising, entry_size, offset_size, vibrated, trembled, moved, remembered};
 
-use crate::Wave;
 use crate::slides::{louder, lowered, raised, softer};
+use crate::{Wave, narrow};
 
 // The largest x and y.
 pub const LAST_MEMORY: u8 = 15;
@@ -80,9 +80,9 @@ impl Wave {
     {
         let by = self.offset_size(VIBRATO_DIVISOR);
         if self.is_raising() {
-            raised(finetune, period, by)
+            narrow::raised(finetune, period, by)
         } else {
-            lowered(finetune, period, by)
+            narrow::lowered(finetune, period, by)
         }
     }
 
@@ -93,9 +93,9 @@ impl Wave {
     {
         let by = self.offset_size(TREMOLO_DIVISOR);
         if self.is_raising() {
-            louder(volume, by)
+            narrow::louder(volume, by)
         } else {
-            softer(volume, by)
+            narrow::softer(volume, by)
         }
     }
 
@@ -115,10 +115,36 @@ impl Wave {
     }
 }
 
-// What is remembered of a number that is given, 0 meaning the old one.
-#[tactic(auto, using(laws::specs::Tests::tests), unfolding(crate::specs::Waves::remembered))]
-pub fn remembered(n: u8, old: u8) -> u8
-    ensures { result ≡ remembered true n old }
+// Any period under vibrato.
+#[tactic(auto, using(crate::proofs::Waving::wavered_up, crate::proofs::Waving::wavered_down))]
+pub fn vibrated(finetune: u32, wave: Wave, period: u32) -> u32
+    ensures { result ≡ vibrated finetune wave period }
 {
-    if n == 0 { old } else { n }
+    let by = u32::from(wave.offset_size(VIBRATO_DIVISOR));
+    if wave.is_raising() {
+        raised(finetune, period, by)
+    } else {
+        lowered(finetune, period, by)
+    }
+}
+
+// Any volume under tremolo.
+#[tactic(auto, using(crate::proofs::Waving::wavered_up, crate::proofs::Waving::wavered_down))]
+pub fn trembled(wave: Wave, volume: u32) -> u32
+    ensures { result ≡ trembled wave volume }
+{
+    let by = u32::from(wave.offset_size(TREMOLO_DIVISOR));
+    if wave.is_raising() {
+        louder(volume, by)
+    } else {
+        softer(volume, by)
+    }
+}
+
+// What is remembered of a number, where one is given, 0 meaning the old one.
+#[tactic(auto, using(laws::specs::Tests::tests), unfolding(crate::specs::Waves::remembered))]
+pub fn remembered(given: bool, n: u32, old: u32) -> u32
+    ensures { result ≡ remembered given n old }
+{
+    if given && n != 0 { n } else { old }
 }
