@@ -62,12 +62,8 @@ impl<'a> Integers<'a> {
     {
         let begins = carried_at(self.machine.tempo, self.machine.remainder, tick.tempo);
         let frames = length_at(tick.tempo, begins);
-        mixing::pass_by(
-            self.module,
-            &mut self.machine.voices,
-            &tick.commands,
-            frames,
-        );
+        let voices = &mut self.machine.voices;
+        mixing::pass_by(self.module, voices, &tick.commands, frames);
         self.rest(tick.tempo, begins);
     }
 
@@ -114,13 +110,8 @@ impl<'a> Sounder for Integers<'a> {
         if out.len() < size {
             return None;
         }
-        mixing::mix_into(
-            self.module,
-            &mut self.machine.voices,
-            &tick.commands,
-            frames,
-            out,
-        );
+        let voices = &mut self.machine.voices;
+        mixing::mix_into(self.module, voices, &tick.commands, frames, out);
         self.rest(tick.tempo, begins);
         Some(size)
     }
