@@ -2,10 +2,9 @@
 -- Assumes nothing.
 use Rattle.std.proofs.Common.{◌≡◌, ℕ, List, ℤ, refl, ap, subst}
 use Rattle.std.specs.Prelude.{Err}
-use Rattle.common.specs.Answers.{accepted, outcome}
+use Rattle.common.specs.Answers.{accepted, outcome, refusal, answered}
 use Rattle.common.specs.AnswerLaws.{no_line}
 use Rattle.common.specs.RefusalLaws.{refused_by_a_rule}
-use Rattle.common.specs.Refusals.{refusal, answered}
 use Rattle.common.specs.declared.Answer.{Answer}
 use Rattle.common.specs.declared.refusals.Refusal.{Refusal}
 use Rattle.ticks.specs.declared.Tick.{Tick}

@@ -2,8 +2,7 @@
 #![tactic(auto)]
 
 ghost use Rattle.std.specs.Prelude.{◌≡◌, ◌<◌, ◌^◌, length};
-ghost use Rattle.common.specs.Answers.{outcome};
-ghost use Rattle.common.specs.Refusals.{answered};
+ghost use Rattle.common.specs.Answers.{outcome, answered};
 ghost use Rattle.ticks.specs.Playing.{Played};
 ghost use Rattle.decoder.specs.Left.{ticks_left};
 ghost use Rattle.board.specs.Board.{play_stream_from_of, play_stream_of};

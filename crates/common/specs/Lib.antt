@@ -1,7 +1,6 @@
 pub mod Limits
 pub mod Bytes
 pub mod Answers
-pub mod Refusals
 pub mod RefusalLaws
 pub mod LimitFacts
 pub mod ByteLaws

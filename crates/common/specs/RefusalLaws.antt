@@ -3,7 +3,7 @@
 use Rattle.std.specs.Prelude.{◌<◌, ◌≡◌}
 use Rattle.std.proofs.Common.{arith}
 use Rattle.common.specs.declared.refusals.Rule.{Rule}
-use Rattle.common.specs.Refusals.{number_of}
+use Rattle.common.specs.Answers.{number_of}
 
 pub number_above_0 : (r : Rule) → 0 < number_of r
 number_above_0 r = grind arith

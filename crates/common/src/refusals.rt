@@ -1,6 +1,6 @@
 // Refusals: the rule that refuses, with its number, and the place that it names.
 ghost use Rattle.std.specs.Prelude.{◌≡◌};
-ghost use Rattle.common.specs.Refusals.{number_of, refusal, answered, judged};
+ghost use Rattle.common.specs.Answers.{number_of, refusal, answered, judged};
 
 use crate::Answer;
 

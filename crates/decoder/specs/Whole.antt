@@ -1,8 +1,7 @@
 -- The bytes of a whole stream, and what the call that judges them answers.
 -- Assumes nothing.
 use Rattle.std.specs.Prelude.{ℕ, ◌≡◌, Bool, true, false, List, [], Result, Ok, Err}
-use Rattle.common.specs.Answers.{accepted}
-use Rattle.common.specs.Refusals.{refusal}
+use Rattle.common.specs.Answers.{accepted, refusal}
 use Rattle.common.specs.declared.Answer.{Answer}
 use Rattle.common.specs.declared.refusals.Refusal.{Refusal}
 use Rattle.ticks.specs.declared.Tick.{Tick}

@@ -1,7 +1,7 @@
 // A stream: its header's numbers, and the judgement of its bytes (refusals 21, 22, 28 and 23).
 ghost use Rattle.std.specs.Prelude.{◌≡◌, ◌^◌, ◌≤◌, ◌<◌, true, length, IfOk, IfSome, IfNone};
 ghost use Rattle.std.specs.Iterator.{YieldsFirst, item_count};
-ghost use Rattle.common.specs.Refusals.{judged};
+ghost use Rattle.common.specs.Answers.{judged};
 ghost use Rattle.records.specs.Format.{records_place, version_of, known_version, keeps, shift, stream_channels, tick_count, first_record, at_first, decode_records, decode};
 ghost use Rattle.decoder.specs.Answers.{answer_of};
 ghost use Rattle.decoder.specs.Whole.{verdict_of, has_ticks, ticks_in, Whole};

@@ -6,8 +6,7 @@ use mathlib.Core.Bool.{Bool, true, false, cond}
 use mathlib.Core.List.{List}
 use native.Mathlib.Omega.{arith}
 use lib.IntN.{ℤ}
-use Rattle.common.specs.Answers.{accepted, outcome}
-use Rattle.common.specs.Refusals.{number_of, refusal}
+use Rattle.common.specs.Answers.{accepted, outcome, number_of, refusal}
 use Rattle.common.specs.RefusalLaws.{refused_by_a_rule}
 use Rattle.common.specs.declared.refusals.Refusal.{Refusal}
 use Rattle.reader.specs.File.{Module, lent, layout_of, module_of}

@@ -2,8 +2,7 @@
 -- Assumes nothing.
 use Rattle.std.specs.Prelude.{ℕ, ◌+◌, ◌<◌, ◌≡◌, length, true, false, List, ℤ, Option, None, Some, Result, Ok, Err}
 use Rattle.common.specs.Limits.{width}
-use Rattle.common.specs.Answers.{accepted}
-use Rattle.common.specs.Refusals.{number_of, refusal}
+use Rattle.common.specs.Answers.{accepted, number_of, refusal}
 use Rattle.common.specs.declared.Answer.{Answer}
 use Rattle.common.specs.declared.refusals.Refusal.{Refusal}
 use Rattle.ticks.specs.Play.{Mechanism}

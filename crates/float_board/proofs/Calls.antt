@@ -3,10 +3,9 @@
 use Rattle.std.proofs.Common.{◌≡◌, ℕ, List, [], refl, ap, subst}
 use lib.Ieee.{Float}
 use Rattle.std.specs.Prelude.{Ok, Err}
-use Rattle.common.specs.Answers.{accepted, outcome}
+use Rattle.common.specs.Answers.{accepted, outcome, refusal}
 use Rattle.common.specs.AnswerLaws.{no_line, line_given, line_passed}
 use Rattle.common.specs.RefusalLaws.{refused_by_a_rule}
-use Rattle.common.specs.Refusals.{refusal}
 use Rattle.common.specs.declared.Answer.{Answer}
 use Rattle.common.specs.declared.refusals.Refusal.{Refusal}
 use Rattle.ticks.specs.declared.Tick.{Tick}

@@ -2,8 +2,7 @@
 -- It takes the samples with their lengths and loops, and never the module: that is judged, and lends its samples.
 -- Assumes nothing.
 use Rattle.std.specs.Prelude.{ℕ, Result, Ok, Err, Bool, List, [], ◌∷◌, length, drop, Float}
-use Rattle.common.specs.Answers.{refused, accepted, Outcome, outcome, line, refusing}
-use Rattle.common.specs.Refusals.{refusal}
+use Rattle.common.specs.Answers.{refused, accepted, Outcome, outcome, line, refusing, refusal}
 use Rattle.common.specs.declared.Answer.{Answer}
 use Rattle.common.specs.declared.refusals.Refusal.{Refusal}
 use Rattle.ticks.specs.declared.Tick.{Tick}

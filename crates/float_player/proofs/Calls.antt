@@ -3,9 +3,8 @@
 use Rattle.std.proofs.Common.{◌≡◌, ℕ, true, List, [], refl}
 use lib.Ieee.{Float}
 use Rattle.std.specs.Prelude.{Ok, Err}
-use Rattle.common.specs.Answers.{accepted, outcome}
+use Rattle.common.specs.Answers.{accepted, outcome, refusal}
 use Rattle.common.specs.AnswerLaws.{no_line, line_given, line_passed}
-use Rattle.common.specs.Refusals.{refusal}
 use Rattle.common.specs.declared.refusals.Refusal.{Refusal}
 use Rattle.reader.specs.File.{module_of}
 use Rattle.reader.specs.Modules.{as_module}

@@ -1,8 +1,7 @@
 -- Playing as floats: the ticks of the sequencer from a state, as many as fit, on the machine that plays floats.
 -- Assumes nothing.
 use Rattle.std.specs.Prelude.{ℕ, Result, Ok, Err, List, [], ◌∷◌, length, Float}
-use Rattle.common.specs.Answers.{refused, accepted, Outcome, outcome, line, refusing}
-use Rattle.common.specs.Refusals.{refusal}
+use Rattle.common.specs.Answers.{refused, accepted, Outcome, outcome, line, refusing, refusal}
 use Rattle.common.specs.declared.refusals.Refusal.{Refusal}
 use Rattle.ticks.specs.declared.Tick.{Tick}
 use Rattle.ticks.specs.Play.{Mechanism, rendered, fit, after_fit, play_out}

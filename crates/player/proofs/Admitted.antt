@@ -1,9 +1,8 @@
 -- What a call answers whose file and state were admitted, or refused: its own lines and its work, or the refusal.
 -- Assumes nothing.
 use Rattle.std.proofs.Common.{◌≡◌, ℕ, ◌-◌, ◌<◌, ◌≤◌, List, ℤ, sym, ap, ◌∙◌, refl, subst, get_or}
-use Rattle.common.specs.Answers.{Line, Outcome, refused, accepted, outcome, refusing}
+use Rattle.common.specs.Answers.{Line, Outcome, refused, accepted, outcome, refusing, number_of, refusal}
 use Rattle.common.specs.declared.Answer.{Answer}
-use Rattle.common.specs.Refusals.{number_of, refusal}
 use Rattle.common.specs.RefusalLaws.{refused_by_a_rule}
 use Rattle.common.specs.declared.refusals.Refusal.{Refusal}
 use Rattle.reader.specs.File.{Module, lent, layout_of, module_of, song_length}

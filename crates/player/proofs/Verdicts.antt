@@ -3,13 +3,12 @@
 use Rattle.std.proofs.Common.{◌≡◌, ℕ, Bool, true, false, not, ◌&&◌, ltb, List, [], ℤ, sym, refl, ap, ◌∙◌, subst, arith}
 use Rattle.laws.specs.Ranges.{all, all_from}
 use Rattle.reader.specs.Layouts.{LegalLayout, module_legal}
-use Rattle.common.specs.Answers.{refused, accepted, outcome, refusing}
+use Rattle.common.specs.Answers.{refused, accepted, outcome, refusing, refusal}
 use Rattle.common.specs.AnswerLaws.{no_line, line_given, line_passed}
 use Rattle.common.specs.ByteLaws.{Bytes}
 use Rattle.common.specs.declared.Answer.{Answer}
 use Rattle.common.specs.declared.refusals.Refusal.{Refusal}
 use Rattle.common.specs.declared.refusals.Rule.TheVariants.{State as IllegalState}
-use Rattle.common.specs.Refusals.{refusal}
 use Rattle.common.specs.RefusalLaws.{refused_by_a_rule}
 use Rattle.reader.specs.File.{Module, lent, layout_of, module_of, song_length}
 use Rattle.reader.specs.Judge.{verdict, judge_of}

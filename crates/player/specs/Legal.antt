@@ -3,12 +3,11 @@
 use Rattle.std.specs.Prelude.{◌≡◌, ◌<◌, true, List, [], length, Result, Ok, Err}
 use borrow.Author.Tests.{ltb-true, lt-ltb}
 use Rattle.laws.specs.Every.{all_at, all_by, Each}
-use Rattle.common.specs.Answers.{refused, accepted, refusing}
+use Rattle.common.specs.Answers.{refused, accepted, refusing, refusal}
 use Rattle.common.specs.ByteLaws.{Bytes}
 use Rattle.common.specs.Limits.{width}
 use Rattle.common.specs.declared.Answer.{Answer}
 use Rattle.common.specs.declared.refusals.Refusal.{Refusal}
-use Rattle.common.specs.Refusals.{refusal}
 use Rattle.reader.specs.File.{Module, song_length}
 use Rattle.reader.specs.Judge.{verdict}
 use Rattle.reader.specs.Samples.{extents_of}

@@ -1,10 +1,9 @@
 -- Why a channel is quiet: the cause that its voice has for the next frame, with no tick work done first.
 -- Assumes nothing.
 use Rattle.std.specs.Prelude.{ℕ, ◌-◌, not, ◌&&◌, List, [], ◌∷◌, nat_le, nat_lt, slice_index_or, Result, Ok, Err}
-use Rattle.common.specs.Answers.{refused, accepted, Line, line, refusing}
+use Rattle.common.specs.Answers.{refused, accepted, Line, line, refusing, refusal}
 use Rattle.common.specs.declared.Answer.{Answer}
 use Rattle.common.specs.declared.refusals.Refusal.{Refusal}
-use Rattle.common.specs.Refusals.{refusal}
 use Rattle.reader.specs.File.{Module, module_of, channel_count}
 use Rattle.voice.specs.declared.quiet.Cause.{Cause}
 use Rattle.voice.specs.declared.Voice.{Voice}

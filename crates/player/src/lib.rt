@@ -2,8 +2,7 @@
 #![tactic(auto)]
 
 ghost use Rattle.std.specs.Prelude.{◌≡◌};
-ghost use Rattle.common.specs.Answers.{refused, accepted, outcome};
-ghost use Rattle.common.specs.Refusals.{answered, judged};
+ghost use Rattle.common.specs.Answers.{refused, accepted, outcome, answered, judged};
 ghost use Rattle.player.specs.State.{fresh_state, reply};
 ghost use Rattle.player.specs.Play.{play_of};
 ghost use Rattle.player.specs.Touch.{change_page_of, touch_of};

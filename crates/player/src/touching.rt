@@ -1,7 +1,6 @@
 // Touches of an accepted module's song, from a legal state: one, and as many as are handed over at once.
 ghost use Rattle.std.specs.Prelude.{◌≡◌, ◌≤◌, max, not, ◌&&◌, length, ◌==◌};
-ghost use Rattle.common.specs.Answers.{accepted, outcome};
-ghost use Rattle.common.specs.Refusals.{answered, judged};
+ghost use Rattle.common.specs.Answers.{accepted, outcome, answered, judged};
 ghost use Rattle.player.specs.State.{reply};
 ghost use Rattle.player.specs.Touch.{age_of};
 ghost use Rattle.player.specs.Burst.{as_burst, longest, taken_from};

@@ -4,8 +4,7 @@ use Rattle.std.specs.Prelude.{ℕ, ◌≡◌, List, ◌∷◌}
 use Rattle.std.proofs.Common.{sym, ap, ◌∙◌}
 use Rattle.common.specs.declared.Answer.{Answer}
 use Rattle.common.specs.declared.refusals.Refusal.{Refusal}
-use Rattle.common.specs.Answers.{Line, refusing}
-use Rattle.common.specs.Refusals.{number_of, refusal}
+use Rattle.common.specs.Answers.{Line, refusing, number_of, refusal}
 use Rattle.common.specs.RefusalLaws.{refused_by_a_rule}
 use Rattle.reader.specs.File.{Module, lent, layout_of, module_of}
 use Rattle.reader.specs.Judge.{judge_of, module_line}

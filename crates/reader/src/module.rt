@@ -31,7 +31,7 @@ pub struct Module<'a> {
 impl<'a> Module<'a> {
     ghost use Rattle.std.specs.Prelude.{◌^◌, ◌<◌, IfOk};
     ghost use Rattle.std.specs.Result.{IfErr};
-    ghost use Rattle.common.specs.Refusals.{refusal};
+    ghost use Rattle.common.specs.Answers.{refusal};
     ghost use Rattle.reader.specs.Cells.{row_offset};
     ghost use Rattle.reader.specs.Judge.{judge_of};
     ghost use Rattle.reader.specs.Modules.{as_module};

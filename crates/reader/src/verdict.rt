@@ -1,7 +1,6 @@
 // The table of refusals: whether any bytes are a module, by the first line that is given.
 ghost use Rattle.std.specs.Prelude.{◌≡◌, ◌+◌, ◌*◌, ◌≤◌, length};
-ghost use Rattle.common.specs.Answers.{refused, accepted, refusing};
-ghost use Rattle.common.specs.Refusals.{judged};
+ghost use Rattle.common.specs.Answers.{refused, accepted, refusing, judged};
 ghost use Rattle.reader.specs.File.{lent};
 ghost use Rattle.reader.specs.Judge.{cell_lines, rest_lines, verdict, judge_of};
 ghost use Rattle.reader.specs.Layouts.{LegalLayout};

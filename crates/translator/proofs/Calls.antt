@@ -11,10 +11,9 @@ use mir.Val.{Fits}
 use borrow.Author.Tests.{lt-ltb, le-ltb}
 use borrow.Rule.Slice.PartMut.{put_mid}
 use Rattle.laws.specs.Lent.{tail_long}
-use Rattle.common.specs.Answers.{outcome, accepted}
+use Rattle.common.specs.Answers.{outcome, accepted, refusal}
 use Rattle.common.specs.AnswerLaws.{line_given, line_passed}
 use Rattle.common.specs.Limits.{width}
-use Rattle.common.specs.Refusals.{refusal}
 use Rattle.common.specs.declared.refusals.Refusal.{Refusal}
 use Rattle.common.specs.declared.refusals.Rule.TheVariants.{TickCount, StreamRoom}
 use Rattle.ticks.specs.Play.{over}

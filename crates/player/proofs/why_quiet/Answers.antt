@@ -1,7 +1,7 @@
 -- A law for each answer, over what the tests before it showed.
 use Rattle.player.proofs.Admitted.{not_admitted, known_voice, channel_0, channel_past, channel_quiet}
 use Rattle.player.specs.Quiet.{why_quiet_of}
-use Rattle.common.specs.Refusals.{refusal}
+use Rattle.common.specs.Answers.{refusal}
 use Rattle.std.proofs.Common.{ap, rules}
 use Rattle.player.proofs.why_quiet.Goals as goal
 
