@@ -24,7 +24,7 @@ use board_cells::{BOARD_CELLS, FEED_CELLS, put_board, put_feed};
 use cells::CELLS;
 use player::State;
 use player::touching::{Burst, Touch};
-use replies::{ANSWER_CELLS, PAIR_CELLS, pair_of, put_answer, put_pair, put_reply, why_answer};
+use replies::{ANSWER_CELLS, PAIR_CELLS, cause_answer, pair_of, put_answer, put_pair, put_reply};
 
 // Major times 1,000,000, plus minor times 1,000, plus patch.
 const VERSION: u32 = 8000;
@@ -154,7 +154,7 @@ pub extern "C" fn lampthistle_why_quiet(
     ensures { answer.new ≡ answer_cells (why_answer (why_quiet_of file.now (state_of state.now) channel)) }
 {
     let caused = player::why_quiet(file, &cells::state_of(state), channel);
-    put_answer(why_answer(caused), answer);
+    put_answer(cause_answer(caused), answer);
 }
 
 // Translates at most 65,535 ticks of a module, from fresh, to a stream in the room.

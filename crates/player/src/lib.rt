@@ -38,6 +38,9 @@ pub struct Reply {
     pub state: State,
 }
 
+// What asking for the cause of quiet answers: the cause, or any refusal's answer.
+pub type Why = Result<Cause, Answer>;
+
 pub fn refuse(number: u32, place: usize, state: State) -> Reply
     ensures { result ≡ reply (refused number place) state }
 {

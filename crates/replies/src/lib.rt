@@ -11,7 +11,7 @@ use cells::CELLS;
 use common::Answer;
 use common::refusals::Refusal;
 use floats::Pair;
-use player::State;
+use player::{State, Why};
 use voice::quiet::Cause;
 
 // An answer's cells.
@@ -67,11 +67,18 @@ pub fn put_pair(a: Answer, last: Pair, pair: &mut [f32; PAIR_CELLS], tick: &mut 
 }
 
 // The count is the cause's number.
-pub fn why_answer(caused: Result<Cause, Refusal>) -> Answer
+pub fn why_answer(why: Why) -> Answer
+    ensures { result ≡ why_answer why }
+{
+    match why {
+        Ok(cause) => common::accept(cause.into()),
+        Err(answer) => answer,
+    }
+}
+
+// The same of what the call returns.
+pub fn cause_answer(caused: Result<Cause, Refusal>) -> Answer
     ensures { result ≡ why_answer (why caused) }
 {
-    match caused {
-        Ok(cause) => common::accept(cause.into()),
-        Err(e) => e.into(),
-    }
+    why_answer(caused.map_err(Answer::from))
 }
