@@ -61,11 +61,11 @@ fn write_records(m: &Module, ticks: u32, room: &mut [u8]) -> usize
     let mut pass = Pass::fresh(m);
     let mut len = 0;
     for i in 0..ticks {
-        let registers = pass.registers;
+        let held = pass.registers;
         let told = pass.next_tick();
         let record = Record {
             channels: m.layout.channels,
-            registers: &registers,
+            registers: &held,
             tick: &told,
         };
         len += record.put(&mut room[len..]);

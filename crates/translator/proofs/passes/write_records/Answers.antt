@@ -9,7 +9,8 @@ loop-i-init c = search (writing_laws, rules)
 pub invariant_of-record : goal.invariant_of-record
 invariant_of-record c =
     let e : Steps c.loop-i.pass c.next_tick-told.new.self c.next_tick-told.result = search rules in
-    record { few = c.args.m.now.legal.channels; long = pass_long _ _ _ e }
+    let l = pass_long _ _ _ e in
+    record { few = c.args.m.now.legal.channels; long = (search rules, l.1) }
 
 pub slice_bounds-put-count : goal.slice_bounds-put-count
 slice_bounds-put-count c = search (writing_laws, rules)
