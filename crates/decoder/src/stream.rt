@@ -29,7 +29,7 @@ pub struct Stream<'a> {
 }
 
 // The ticks of a stream that are left, from a record on. The registers are the commands of the tick before.
-#[derive(Drop)]
+#[derive(Clone, Copy)]
 pub struct Ticks<'a> {
     pub stream: Stream<'a>,
     pub registers: [Command; WIDTH],

@@ -19,7 +19,7 @@ use ticks::Tick;
 pub const MIXED: usize = 7500;
 
 // A module's ticks as floats. They are mixed in a buffer, whose numbers are no part of the state.
-#[derive(Drop)]
+#[derive(Clone, Copy)]
 pub struct Floats<'a> {
     pub frames: Integers<'a>,
     pub sides: Sides,

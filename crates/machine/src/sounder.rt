@@ -43,7 +43,7 @@ pub trait Sounder {
 }
 
 // A module's ticks as 16-bit numbers, by the rule that keeps remainders or by the old one.
-#[derive(Drop)]
+#[derive(Clone, Copy)]
 pub struct Integers<'a> {
     pub module: &'a Module<'a>,
     pub keeps: bool,
