@@ -1,4 +1,5 @@
 -- A legal song is left legal, with samples that are legal to sound.
+use borrow.Author.Rules.{rules}
 use Rattle.std.proofs.Common.{◌≡◌, ◌∙◌, ap}
 use Rattle.ticks.specs.Commands.{sounding_of}
 use Rattle.reader.specs.Modules.{as_module}
@@ -15,4 +16,6 @@ invariant_of-self c =
     let p = c.args.self.now in
     let w = c.tick-worked.result in
     let e : w ≡ tick_of (as_module p.m.now) p.song (sounding_of p.registers) = c.tick-worked.ensures ∙ ap (tick_of (as_module p.m.now) p.song) c.sounding_of-sounding.ensures in
-    record { legal = next_song p.m.now p.song p.registers p.legal p.sounds w e; sounds = next_sounds p.m.now p.song p.registers p.legal p.sounds w e }
+    let before = p.legal in
+    let after = next_song p.m.now p.song p.registers p.legal p.sounds w e in
+    record { legal = search rules; sounds = next_sounds p.m.now p.song p.registers p.legal p.sounds w e }
