@@ -11,6 +11,7 @@ use Rattle.reader.specs.Judge.{judge_of, module_line}
 use Rattle.reader.specs.Accept.{module_given, module_passed}
 use Rattle.reader.specs.declared.headed.Headed.{Headed}
 use Rattle.reader.specs.declared.module.Module.{Module as ReadModule}
+use Rattle.reader.specs.declared.module.Tagged.{Tagged}
 
 -- a file that is long enough for its headers
 abbrev pub as_headed : Headed → Module
@@ -20,9 +21,17 @@ as_headed h = lent h.layout h.file.now
 abbrev pub as_module : ReadModule → Module
 as_module m = lent m.layout m.file.now
 
--- which is the file's own module, if it was read by the file's own layout
-pub module_read : (m : ReadModule) (bytes : List ℕ) → m.file.now ≡ bytes → m.layout ≡ layout_of bytes → as_module m ≡ module_of bytes
-module_read m bytes e l = rw (l, e)
+-- which is the file's own module where its layout is the file's own
+pub module_laid : (m : ReadModule) (bytes : List ℕ) → m.file.now ≡ bytes → m.layout ≡ layout_of bytes → as_module m ≡ module_of bytes
+module_laid m bytes e l = rw (l, e)
+
+-- the module of a tagged one is its file's own
+pub module_read : (t : Tagged) (bytes : List ℕ) → t.module.file.now ≡ bytes → as_module t.module ≡ module_of bytes
+module_read t bytes e = module_laid t.module bytes e (t.tagged ∙ ap layout_of e)
+
+-- a module that is its file's own has the layout that the file's tag names
+pub own_layout : (m : ReadModule) (bytes : List ℕ) → as_module m ≡ module_of bytes → m.layout ≡ layout_of m.file.now
+own_layout m bytes own = ap (λ (x : Module). x.layout) own ∙ ap (λ (x : Module). layout_of x.bytes) (sym own)
 
 -- ---- the line of a call that is lent a module
 module _ {A : Type 0} (refuse : ℕ → ℕ → A) (work : A) (bytes : List ℕ) (more : List Line) (x : A) where
