@@ -34,7 +34,8 @@ pub fn play_ticks<S: Sounder>(sounder: &mut S, ticks: Ticks, out: &mut [S::Numbe
     requires few { length (ticks_left ticks) < 2 ^ 32 }
     requires uncounted { S.counted sounder.old ≡ 0 }
     requires narrow { length out.old < 2 ^ 62 }
-    ensures { Played (S.way sounder.old).plays (S.state sounder.old) (ticks_left ticks.entry) out.old (S.state sounder.new) out.new result }
+    ensures played { Played (S.way sounder.old).plays (S.state sounder.old) (ticks_left ticks.entry) out.old (S.state sounder.new) out.new result }
+    ensures same { S.way sounder.new ≡ S.way sounder.old }
 {
     let mut at = 0;
     let mut count = 0;

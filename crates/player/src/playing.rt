@@ -72,7 +72,8 @@ pub fn play_song<S: Sounder>(
     requires begins { Begins (S.way sounder.old) (S.state sounder.old) start }
     requires uncounted { S.counted sounder.old ≡ 0 }
     requires narrow { length out.old < 2 ^ 62 }
-    ensures { Over (S.way sounder.old).plays (voices_in (S.way sounder.old)) (as_module (S.way sounder.old).source) (state_of start ((S.way sounder.old).held (S.state sounder.old))) (S.state sounder.old) n out.old result.0 (S.state sounder.new) out.new result.1 }
+    ensures over { Over (S.way sounder.old).plays (voices_in (S.way sounder.old)) (as_module (S.way sounder.old).source) (state_of start ((S.way sounder.old).held (S.state sounder.old))) (S.state sounder.old) n out.old result.0 (S.state sounder.new) out.new result.1 }
+    ensures same { S.way sounder.new ≡ S.way sounder.old }
 {
     let mut song = start;
     let mut at = 0;

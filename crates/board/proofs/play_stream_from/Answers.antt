@@ -20,4 +20,4 @@ pub returns : goal.returns
 returns c =
     let f = c.in_ok-stream.ensures.its in
     let led = rw (c.keeps.ensures, f.1) at c.lead.ensures.led in
-    stream_played _ _ _ _ c.in_ok-module.module c.in_ok-module.ensures.own (rw (← c.scope.ensures.last, ← c.scope.ensures.channels, ← f.0, ← f.1) c.in_ok-stream.stream.whole) _ _ _ _ _ led (rw (c.lead.ensures.module, c.lead.ensures.keeps, c.keeps.ensures, f.1) at c.play_ticks.ensures)
+    stream_played _ _ _ _ c.in_ok-module.module c.in_ok-module.ensures.own (rw (← c.scope.ensures.last, ← c.scope.ensures.channels, ← f.0, ← f.1) c.in_ok-stream.stream.whole) _ _ _ _ _ led (rw (c.lead.ensures.module, c.lead.ensures.keeps, c.keeps.ensures, f.1) at c.play_ticks.ensures.played)

@@ -25,4 +25,4 @@ returns c =
     let f = c.in_ok-stream.ensures.its in
     let led = rw (c.keeps.ensures, f.1) at c.lead.ensures.led in
     rw c.accept.ensures
-    (stream_played _ _ _ _ _ _ c.in_ok-module.module c.in_ok-module.ensures.own c.in_ok-sides.sides c.in_ok-sides.ensures (rw (← c.scope.ensures.last, ← c.scope.ensures.channels, ← f.0, ← f.1) c.in_ok-stream.stream.whole) _ _ _ _ _ led (rw (c.lead.ensures.module, c.lead.ensures.keeps, c.keeps.ensures, f.1) at c.play_ticks-count.ensures))
+    (stream_played _ _ _ _ _ _ c.in_ok-module.module c.in_ok-module.ensures.own c.in_ok-sides.sides c.in_ok-sides.ensures (rw (← c.scope.ensures.last, ← c.scope.ensures.channels, ← f.0, ← f.1) c.in_ok-stream.stream.whole) _ _ _ _ _ led (rw (c.lead.ensures.module, c.lead.ensures.keeps, c.keeps.ensures, f.1) at c.play_ticks-count.ensures.played))

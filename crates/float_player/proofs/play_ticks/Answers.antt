@@ -7,4 +7,4 @@ pub play_song-count-requires-clause-begins : goal.play_song-count-requires-claus
 play_song-count-requires-clause-begins c = rw c.machine_of.ensures (floats_begin c.args.m.now _ _ c.requires (search rules))
 
 pub returns : goal.returns
-returns c = floats_end c.args.m.now _ _ _ (rw c.machine_of.ensures at c.play_song-count.ensures) (rw c.after_ticks.ensures)
+returns c = floats_end c.args.m.now _ _ _ (rw c.machine_of.ensures at c.play_song-count.ensures.over) (rw c.after_ticks.ensures)

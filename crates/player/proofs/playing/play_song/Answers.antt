@@ -12,8 +12,11 @@ sounder_tick-worked-requires g c = rw c.loop-i.invariant.same (turning_run _ c.l
 pub play_tick-requires-clause-due : goal.play_tick-requires-clause-due
 play_tick-requires-clause-due g c = rw c.loop-i.invariant.same (turning_due _ c.loop-i.invariant.turning c.loop-i-test.true _ (rw c.loop-i.invariant.same at c.sounder_tick-worked.ensures))
 
-pub returns-in-None : goal.returns-in-None
-returns-in-None g c = turned_full _ c.loop-i.invariant.turning c.loop-i-test.true _ (rw c.loop-i.invariant.same at c.sounder_tick-worked.ensures) _ _ (rw c.loop-i.invariant.same at c.in-None.ensures.turned)
+pub returns-in-None-clause-over : goal.returns-in-None-clause-over
+returns-in-None-clause-over g c = turned_full _ c.loop-i.invariant.turning c.loop-i-test.true _ (rw c.loop-i.invariant.same at c.sounder_tick-worked.ensures) _ _ (rw c.loop-i.invariant.same at c.in-None.ensures.turned)
+
+pub returns-in-None-clause-same : goal.returns-in-None-clause-same
+returns-in-None-clause-same g c = c.in-None.ensures.same ∙ c.loop-i.invariant.same
 
 pub overflow_add-at : goal.overflow_add-at
 overflow_add-at g c =
@@ -27,5 +30,8 @@ loop-i-preserved g c =
       counted = omega (arith, c.in-Some.ensures.counted, c.loop-i.invariant.counted);
     }
 
-pub returns : goal.returns
-returns g c = turned_all _ c.loop-i.invariant.turning c.loop-i-test.false
+pub returns-clause-over : goal.returns-clause-over
+returns-clause-over g c = turned_all _ c.loop-i.invariant.turning c.loop-i-test.false
+
+pub returns-clause-same : goal.returns-clause-same
+returns-clause-same g c = c.loop-i.invariant.same

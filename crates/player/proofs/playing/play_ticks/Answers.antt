@@ -7,4 +7,4 @@ pub play_song-count-requires-clause-begins : goal.play_song-count-requires-claus
 play_song-count-requires-clause-begins c = rw c.machine_of-machine.ensures (integers_begin c.args.m.now c.requires (search rules))
 
 pub returns : goal.returns
-returns c = integers_end c.args.m.now c.after_ticks.result (rw c.machine_of-machine.ensures at c.play_song-count.ensures) c.after_ticks.ensures
+returns c = integers_end c.args.m.now c.after_ticks.result (rw c.machine_of-machine.ensures at c.play_song-count.ensures.over) c.after_ticks.ensures
